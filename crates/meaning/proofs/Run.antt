@@ -1,0 +1,26 @@
+-- The undamaged run over bytes: the lines of logs put together at line feeds are the lines of each in turn, so the law over lines carries over.
+-- Assumes nothing.
+use Prim.Native.Nat.{ℕ}
+use mathlib.Core.Path.{_≡_, ap, ap₂, sym, _∙_}
+use mathlib.Core.List.{List, _++_}
+use lib.ListN.{length, length-map}
+use Rattle.stretches.specs.Run.{cut}
+use Rattle.event_log.specs.Lines.{lines, Whole}
+use Rattle.event_log.specs.Line.{meaning}
+use Rattle.event_log.specs.Reading.{says}
+use Rattle.event_log.specs.declared.Line.{Line}
+use Rattle.event_log.proofs.Through.{says-run}
+use Rattle.pattern.specs.Pattern.{Pattern}
+use Rattle.meaning.specs.Meaning.{answersOf, answersIn}
+use Rattle.meaning.proofs.Tree.{run-lines}
+
+-- a line says something for each line there is
+pub says-length : (log : List ℕ) → length (says log) ≡ length (lines log)
+says-length log = length-map (lines log) meaning
+
+-- demand 3 over bytes: whatever whole lines precede a run of whole lines, and whatever follows it
+pub run-bytes : (p : Pattern) (a run b : List ℕ) → Whole a → Whole run → cut (length (lines a)) (length (lines run)) (answersIn p (a ++ (run ++ b))) ≡ answersIn p run
+run-bytes p a run b wa wr =
+    ap₂ (λ (r n : ℕ). cut r n (answersIn p (a ++ (run ++ b)))) (sym (says-length a)) (sym (says-length run))
+    ∙ (ap (λ (x : List Line). cut (length (says a)) (length (says run)) (answersOf p x)) (says-run a run b wa wr)
+    ∙ run-lines p (says a) (says run) (says b))

@@ -1,0 +1,116 @@
+-- Laws of a pattern's list, by its tree: it rises, is sound and lies below the lines; and the undamaged run, for every pattern over lists of lines.
+-- Each is the operators' law, taken through the tree. Assumes nothing.
+use Prim.Native.Nat.{ℕ, _+_, _≤_, _<_}
+use mathlib.Core.Path.{_≡_, sym, ap, subst, subst₂, _∙_}
+use mathlib.Core.Bool.{Bool}
+use mathlib.Core.List.{List, _++_, map, map-append}
+use mathlib.Core.Option.{Option, none, some}
+use lib.ListN.{length, length-map}
+use native.Mathlib.Omega.{arith}
+use Rattle.stretches.specs.Stretch.{Stretch, st, Rising, Op, answers, marks}
+use Rattle.stretches.specs.Stretch as op
+use Rattle.stretches.specs.Run.{cut}
+use Rattle.stretches.proofs.Answers.{AllRising, AllSound, Sound, rising-answers, sound-answers}
+use Rattle.stretches.proofs.Window.{Window, Windows, or-alike, and-alike, row-alike, then-alike, less-alike, max-alike, local}
+use Rattle.stretches.proofs.Cut.{Below, AllBelow, below-answers, window-cut}
+use Rattle.stretches.proofs.Marks.{in-marks, rising-marks, window-marks}
+use Rattle.stretches.proofs.Steps.{rising-length}
+use Rattle.event_log.specs.declared.Line.{Line}
+use Rattle.pattern.specs.Pattern.{Symbol, Ev, Fr, Or, And, Row, Then, Less, Max, Pattern, Patterns, Node, Nil, Cons}
+use Rattle.meaning.specs.Meaning.{Valuation, matches, operator, apply, eval, evals, overLines, answersOf}
+
+-- ── Every list of a pattern rises, is sound and ends below n, where the leaves' lists do ──
+
+-- a list that rises, has no start above its end, and ends below n
+pub record Fine (n : ℕ) (l : List Stretch) : Type 0 where
+  pub rising : Rising l
+  pub sound : Sound l
+  pub below : Below n l
+
+pub record AllFine (n : ℕ) (ls : List (List Stretch)) : Type 0 where
+  pub rising : AllRising ls
+  pub sound : AllSound ls
+  pub below : AllBelow n ls
+
+pub fine-answers : (n : ℕ) (o : Op) (ls : List (List Stretch)) → AllFine n ls → Fine n (answers o ls)
+fine-answers n o ls f = record { rising = rising-answers o ls (f .rising) (f .sound); sound = sound-answers o ls (f .sound); below = below-answers o n ls (f .below) }
+
+module _ (n : ℕ) (v : Valuation) (leaves : (h : Symbol) → Fine n (v .leaf h)) where
+  fine-apply : (o : Option Op) (h : Symbol) (ls : List (List Stretch)) → AllFine n ls → Fine n (apply o (v .leaf h) ls)
+  fine-apply none h ls f = leaves h
+  fine-apply (some o) h ls f = fine-answers n o ls f
+
+  mutual
+    pub fine-eval : (p : Pattern) → Fine n (eval v p)
+    fine-eval (Node h ps) = fine-apply (operator (v .measure) h) h (evals v ps) (fine-evals ps)
+
+    pub fine-evals : (ps : Patterns) → AllFine n (evals v ps)
+    fine-evals Nil = record { rising = tt; sound = tt; below = tt }
+    fine-evals (Cons p ps) =
+        let h = fine-eval p in
+        let k = fine-evals ps in
+        record { rising = (h .rising, k .rising); sound = (h .sound, k .sound); below = (h .below, k .below) }
+
+-- ── The leaves over lines ──
+
+pub fine-marks : (bs : List Bool) → Fine (length bs) (marks 0 bs)
+fine-marks bs = record {
+  rising = rising-marks 0 bs;
+  sound = λ s e m. omega (arith, in-marks 0 bs s e m .one);
+  below = λ s e m. omega (arith, in-marks 0 bs s e m .one, in-marks 0 bs s e m .to);
+}
+
+pub fine-leaf : (ls : List Line) (h : Symbol) → Fine (length ls) (marks 0 (map (matches h) ls))
+fine-leaf ls h = subst (λ (n : ℕ). Fine n (marks 0 (map (matches h) ls))) (length-map ls (matches h)) (fine-marks (map (matches h) ls))
+
+-- the answers of a pattern rise, are sound and end on the lines
+pub fine-answersOf : (p : Pattern) (ls : List Line) → Fine (length ls) (answersOf p ls)
+fine-answersOf p ls = fine-eval (length ls) (overLines ls) (fine-leaf ls) p
+
+-- no more answers than lines
+pub few-answers : (p : Pattern) (ls : List Line) → length (answersOf p ls) ≤ length ls
+few-answers p ls = let f = fine-answersOf p ls in rising-length (length ls) (answersOf p ls) (f .rising) (f .sound) (f .below)
+
+-- ── The undamaged run, over lines ──
+
+module _ (r n : ℕ) (v v′ : Valuation) (b b′ : ℕ)
+    (leaves : (h : Symbol) → Fine b (v .leaf h)) (leaves′ : (h : Symbol) → Fine b′ (v′ .leaf h))
+    (windows : (h : Symbol) → Window r n (v .leaf h) (v′ .leaf h))
+    (measures : (s e : ℕ) → e < n → v .measure (st (r + s) (r + e)) ≡ v′ .measure (st s e)) where
+  -- a symbol over windows of its operands
+  window-apply : (h : Symbol) (ls ls′ : List (List Stretch)) → AllFine b ls → AllFine b′ ls′ → Windows r n ls ls′
+      → Window r n (apply (operator (v .measure) h) (v .leaf h) ls) (apply (operator (v′ .measure) h) (v′ .leaf h) ls′)
+  window-apply (Ev c l) ls ls′ f f′ w = windows (Ev c l)
+  window-apply (Fr c l) ls ls′ f f′ w = windows (Fr c l)
+  window-apply (Or k) ls ls′ f f′ w = local r n op.Or op.Or or-alike ls ls′ (f .rising) (f .sound) (f′ .rising) (f′ .sound) w
+  window-apply (And k) ls ls′ f f′ w = local r n op.And op.And and-alike ls ls′ (f .rising) (f .sound) (f′ .rising) (f′ .sound) w
+  window-apply (Row k) ls ls′ f f′ w = local r n op.Row op.Row row-alike ls ls′ (f .rising) (f .sound) (f′ .rising) (f′ .sound) w
+  window-apply (Then k) ls ls′ f f′ w = local r n op.Then op.Then then-alike ls ls′ (f .rising) (f .sound) (f′ .rising) (f′ .sound) w
+  window-apply Less ls ls′ f f′ w = local r n op.Less op.Less less-alike ls ls′ (f .rising) (f .sound) (f′ .rising) (f′ .sound) w
+  window-apply (Max k) ls ls′ f f′ w = local r n (op.Max (v .measure) k) (op.Max (v′ .measure) k) (max-alike measures) ls ls′ (f .rising) (f .sound) (f′ .rising) (f′ .sound) w
+
+  mutual
+    window-eval : (p : Pattern) → Window r n (eval v p) (eval v′ p)
+    window-eval (Node h ps) = window-apply h (evals v ps) (evals v′ ps) (fine-evals b v leaves ps) (fine-evals b′ v′ leaves′ ps) (windows-evals ps)
+
+    windows-evals : (ps : Patterns) → Windows r n (evals v ps) (evals v′ ps)
+    windows-evals Nil = tt
+    windows-evals (Cons p ps) = (window-eval p, windows-evals ps)
+
+-- demand 3 over lists of lines: whatever precedes and follows a run, the answers wholly within it, counted from its first line, are those of the run alone
+pub run-lines : (p : Pattern) (xs run zs : List Line) → cut (length xs) (length run) (answersOf p (xs ++ (run ++ zs))) ≡ answersOf p run
+run-lines p xs run zs =
+    let f = fine-answersOf p (xs ++ (run ++ zs)) in
+    let g = fine-answersOf p run in
+    window-cut (length xs) (length run) (answersOf p (xs ++ (run ++ zs))) (answersOf p run) (f .rising) (f .sound) (g .rising) (g .below)
+    (window-eval (length xs) (length run) (overLines (xs ++ (run ++ zs))) (overLines run) (length (xs ++ (run ++ zs))) (length run)
+    (fine-leaf (xs ++ (run ++ zs))) (fine-leaf run) window (λ s e h. omega arith) p)
+  where
+    flags : (h : Symbol) → map (matches h) (xs ++ (run ++ zs)) ≡ map (matches h) xs ++ (map (matches h) run ++ map (matches h) zs)
+    flags h = map-append (matches h) xs (run ++ zs) ∙ ap (λ (t : List Bool). map (matches h) xs ++ t) (map-append (matches h) run zs)
+
+    window : (h : Symbol) → Window (length xs) (length run) (marks 0 (map (matches h) (xs ++ (run ++ zs)))) (marks 0 (map (matches h) run))
+    window h =
+        subst₂ (λ (r n : ℕ). Window r n (marks 0 (map (matches h) (xs ++ (run ++ zs)))) (marks 0 (map (matches h) run))) (length-map xs (matches h)) (length-map run (matches h))
+        (subst (λ (bs : List Bool). Window (length (map (matches h) xs)) (length (map (matches h) run)) (marks 0 bs) (marks 0 (map (matches h) run))) (sym (flags h))
+        (window-marks (map (matches h) xs) (map (matches h) run) (map (matches h) zs)))

@@ -1,0 +1,9 @@
+// The meaning of a pattern in a log, the refusals, and what a filling call leaves: definitions, their laws, and the answers' types.
+
+// What a filling call returns. A refusal has its number and place, and count 0; number 0: accepted. `more`: a further answer exists.
+pub struct Filled {
+    pub number: usize,
+    pub place: usize,
+    pub count: usize,
+    pub more: bool,
+}

@@ -1,0 +1,64 @@
+-- Worked examples of the paper: the place where a misspelt pattern stops, and the symbols of a whole one.
+-- Assumes nothing.
+use Prim.Native.Nat.{ℕ}
+use mathlib.Core.Path.{_≡_, refl}
+use mathlib.Core.List.{List, [], _∷_}
+use Rattle.pattern.specs.Pattern.{Ev, Then}
+use Rattle.pattern.specs.declared.State.the-variants.{Letters}
+use Rattle.pattern.specs.Automaton.{symbol, child, wordAt, step, finish, Stop, Whole, scan}
+use Rattle.pattern.proofs.Trees.{Misread, reading}
+
+-- or,1,ev,1,0
+or-one : Misread (111 ∷ 114 ∷ 44 ∷ 49 ∷ 44 ∷ 101 ∷ 118 ∷ 44 ∷ 49 ∷ 44 ∷ 48 ∷ []) 4
+unfolding child wordAt step finish scan
+or-one = reading (111 ∷ 114 ∷ 44 ∷ 49 ∷ 44 ∷ 101 ∷ 118 ∷ 44 ∷ 49 ∷ 44 ∷ 48 ∷ [])
+
+-- or,0
+or-none : Misread (111 ∷ 114 ∷ 44 ∷ 48 ∷ []) 3
+unfolding child wordAt step finish scan
+or-none = reading (111 ∷ 114 ∷ 44 ∷ 48 ∷ [])
+
+-- or,40
+or-forty : Misread (111 ∷ 114 ∷ 44 ∷ 52 ∷ 48 ∷ []) 4
+unfolding child wordAt step finish scan
+or-forty = reading (111 ∷ 114 ∷ 44 ∷ 52 ∷ 48 ∷ [])
+
+-- ev,256,0
+event-high : Misread (101 ∷ 118 ∷ 44 ∷ 50 ∷ 53 ∷ 54 ∷ 44 ∷ 48 ∷ []) 5
+unfolding child wordAt step finish scan
+event-high = reading (101 ∷ 118 ∷ 44 ∷ 50 ∷ 53 ∷ 54 ∷ 44 ∷ 48 ∷ [])
+
+-- ev,0
+event-zero : Misread (101 ∷ 118 ∷ 44 ∷ 48 ∷ []) 3
+unfolding child wordAt step finish scan
+event-zero = reading (101 ∷ 118 ∷ 44 ∷ 48 ∷ [])
+
+-- max,65536
+max-high : Misread (109 ∷ 97 ∷ 120 ∷ 44 ∷ 54 ∷ 53 ∷ 53 ∷ 51 ∷ 54 ∷ []) 8
+unfolding child wordAt step finish scan
+max-high = reading (109 ∷ 97 ∷ 120 ∷ 44 ∷ 54 ∷ 53 ∷ 53 ∷ 51 ∷ 54 ∷ [])
+
+-- fr,11
+frame-high : Misread (102 ∷ 114 ∷ 44 ∷ 49 ∷ 49 ∷ []) 4
+unfolding child wordAt step finish scan
+frame-high = reading (102 ∷ 114 ∷ 44 ∷ 49 ∷ 49 ∷ [])
+
+-- ev,1,0,
+comma : Misread (101 ∷ 118 ∷ 44 ∷ 49 ∷ 44 ∷ 48 ∷ 44 ∷ []) 6
+unfolding child wordAt step finish scan
+comma = reading (101 ∷ 118 ∷ 44 ∷ 49 ∷ 44 ∷ 48 ∷ 44 ∷ [])
+
+-- then,2,ev,1,0
+unfinished : Misread (116 ∷ 104 ∷ 101 ∷ 110 ∷ 44 ∷ 50 ∷ 44 ∷ 101 ∷ 118 ∷ 44 ∷ 49 ∷ 44 ∷ 48 ∷ []) 13
+unfolding child wordAt step finish scan
+unfinished = reading (116 ∷ 104 ∷ 101 ∷ 110 ∷ 44 ∷ 50 ∷ 44 ∷ 101 ∷ 118 ∷ 44 ∷ 49 ∷ 44 ∷ 48 ∷ [])
+
+-- (nothing)
+empty : Misread ([]) 0
+unfolding child wordAt step finish scan
+empty = reading ([])
+
+-- then,2,ev,7,0,ev,9,0
+whole : scan (116 ∷ 104 ∷ 101 ∷ 110 ∷ 44 ∷ 50 ∷ 44 ∷ 101 ∷ 118 ∷ 44 ∷ 55 ∷ 44 ∷ 48 ∷ 44 ∷ 101 ∷ 118 ∷ 44 ∷ 57 ∷ 44 ∷ 48 ∷ []) (Letters 0 1) ≡ Whole (Then 2 ∷ Ev 7 0 ∷ Ev 9 0 ∷ [])
+unfolding symbol child wordAt step finish scan
+whole = refl

@@ -1,0 +1,222 @@
+-- The loop over the text: what its variables hold, and how a turn keeps it.
+-- Assumes nothing.
+use Prim.Native.Nat.{ℕ, zero, suc, _+_, _-_, _*_, _≤_, _<_}
+use mathlib.Core.Path.{_≡_, refl, sym, ap, ap₂, subst, _∙_}
+use mathlib.Core.Bool.{Bool, true, false, cond}
+use mathlib.Core.List.{List, [], _∷_, _++_, map, append-nil, append-assoc}
+use lib.Dec.{leb, ltb, eqb}
+use lib.ListN.{length, getD, drop, set, replicate, length-append}
+use lib.Seq.{drop-cons}
+use borrow.Author.Tests.{ltb-false, lt-ltb}
+use native.Mathlib.Numerals.{add-one}
+use native.Mathlib.Omega.{arith}
+use Rattle.pattern.specs.Pattern.{Symbol, Ranged, rank}
+use Rattle.pattern.specs.declared.State.{State}
+use Rattle.pattern.specs.declared.State.the-variants.{Letters, Field, Digits}
+use Rattle.pattern.specs.declared.Scanned.{Scanned}
+use Rattle.pattern.specs.declared.Step.{Step}
+use Rattle.pattern.specs.declared.Step.the-variants.{Dead, Within, Closed}
+use Rattle.pattern.specs.Automaton.{symbol, fieldCount, low, high, arity, firstField, secondField, step, Bounded, final, endOf, Scan, Stop, Whole, later, after, last, finish, go, scan, putAt, Columns, Tells}
+use Rattle.pattern.specs.Rows.{kindOf, firstOf, secondOf, padded}
+use Rattle.pattern.proofs.Basics.{cases}
+use Rattle.pattern.proofs.Fields.{Named, named-last, field-small, earlier-small, rank-small}
+use Rattle.pattern.proofs.Scanning.{Held, need, After, Went, Shut, InField, step-after}
+
+-- ── What is left to scan, and what has been ──
+
+abbrev pub resume : ℕ → List Symbol → Scan → Scan
+resume i done (Stop p) = Stop (i + p)
+resume i done (Whole hs) = Whole (done ++ hs)
+
+resume-later : (i : ℕ) (done : List Symbol) (r : Scan) → resume i done (later r) ≡ resume (i + 1) done r
+resume-later i done (Stop p) = ap Stop (omega arith)
+resume-later i done (Whole hs) = refl
+
+resume-after : (i : ℕ) (done : List Symbol) (h : Symbol) (r : Scan) → resume i done (after h r) ≡ resume (i + 1) (done ++ (h ∷ [])) r
+resume-after i done h (Stop p) = ap Stop (omega arith)
+resume-after i done h (Whole hs) = ap Whole (sym (append-assoc done (h ∷ []) hs))
+
+scan-drop : (text : List ℕ) (i : ℕ) (s : State) → i < length text → scan (drop i text) s ≡ go (scan (drop (i + 1) text)) (step s (getD text i 0))
+unfolding scan
+scan-drop text i s h = ap (λ (w : List ℕ). scan w s) (drop-cons text i 0 h) ∙ ap (λ (m : ℕ). go (scan (drop m text)) (step s (getD text i 0))) (sym (add-one i))
+
+-- ── Columns ──
+
+map-snoc : (f : Symbol → ℕ) (xs : List Symbol) (h : Symbol) → map f (xs ++ (h ∷ [])) ≡ map f xs ++ (f h ∷ [])
+map-snoc f [] h = refl
+map-snoc f (x ∷ xs) h = ap (λ (l : List ℕ). f x ∷ l) (map-snoc f xs h)
+
+pub map-length : (f : Symbol → ℕ) (xs : List Symbol) → length (map f xs) ≡ length xs
+map-length f [] = refl
+map-length f (x ∷ xs) = ap suc (map-length f xs)
+
+set-append : (l r : List ℕ) (y x : ℕ) → set (l ++ (y ∷ r)) (length l) x ≡ l ++ (x ∷ r)
+set-append [] r y x = refl
+set-append (z ∷ l) r y x = ap (λ (t : List ℕ). z ∷ t) (set-append l r y x)
+
+set-padded : (l : List ℕ) (x : ℕ) → length l < 32 → set (padded l) (length l) x ≡ padded (l ++ (x ∷ []))
+set-padded l x h =
+    let e : 32 - length l ≡ suc (31 - length l) = omega arith in
+    let g : 31 - length l ≡ 32 - length (l ++ (x ∷ [])) = omega (arith, length-append l (x ∷ [])) in
+    ap (λ (m : ℕ). set (l ++ replicate m 0) (length l) x) e
+    ∙ (set-append l (replicate (31 - length l) 0) 0 x
+    ∙ (sym (append-assoc l (x ∷ []) (replicate (31 - length l) 0)) ∙ ap (λ (m : ℕ). (l ++ (x ∷ [])) ++ replicate m 0) g))
+
+set-column : (f : Symbol → ℕ) (xs : List Symbol) (h : Symbol) (l : List ℕ) (n x : ℕ) → n ≡ length xs → n < 32 → f h ≡ x → l ≡ padded (map f xs) → putAt l n x ≡ padded (map f (xs ++ (h ∷ [])))
+set-column f xs h l n x e p q g =
+    let m : n ≡ length (map f xs) = omega (arith, map-length f xs) in
+    ap (λ (c : Bool). cond c (set l n x) l) (lt-ltb n 32 p) ∙ (ap₂ (λ (t : List ℕ) (m : ℕ). set t m x) g m ∙ (set-padded (map f xs) x (omega arith) ∙ ap padded (ap (λ (y : ℕ). map f xs ++ (y ∷ [])) (sym q) ∙ sym (map-snoc f xs h))))
+
+push : (xs : List Symbol) (ks as′ cs : List ℕ) (n k a c : ℕ) → n ≡ length xs → Named k a c → (length xs ≤ 32 → Columns xs ks as′ cs)
+    → length (xs ++ (symbol k a c ∷ [])) ≤ 32 → Columns (xs ++ (symbol k a c ∷ [])) (putAt ks n k) (putAt as′ n a) (putAt cs n c)
+push xs ks as′ cs n k a c e m f l =
+    let s : n < 32 = omega (arith, length-append xs (symbol k a c ∷ [])) in
+    let g = f (omega arith) in
+    record {
+      kinds = set-column kindOf xs (symbol k a c) ks n k e s (m .kind) (g .kinds);
+      firsts = set-column firstOf xs (symbol k a c) as′ n a e s (m .one) (g .firsts);
+      seconds = set-column secondOf xs (symbol k a c) cs n c e s (m .two) (g .seconds);
+    }
+
+-- ── The invariant ──
+
+pub record Scanning (text ks xs ys : List ℕ) (count : ℕ) (s : State) (i : ℕ) : Type 0 where
+  pub done : List Symbol
+  pub within : i ≤ length text
+  pub few : count ≤ i
+  pub held : Held s
+  pub needs : need s ≤ 1 + 31 * i
+  pub rest : scan text (Letters 0 1) ≡ resume i done (scan (drop i text) s)
+  pub counted : count ≡ length done
+  pub columns : length done ≤ 32 → Columns done ks xs ys
+
+pub begin : (text : List ℕ) → Scanning text (replicate 32 0) (replicate 32 0) (replicate 32 0) 0 (Letters 0 1) 0
+begin text = record {
+  done = [];
+  within = omega arith;
+  few = omega arith;
+  held = (omega arith, omega arith);
+  needs = omega arith;
+  rest = same (scan text (Letters 0 1));
+  counted = refl;
+  columns = λ h. record { kinds = refl; firsts = refl; seconds = refl };
+}
+  where
+    same : (r : Scan) → r ≡ resume 0 [] r
+    same (Stop p) = ap Stop (omega arith)
+    same (Whole hs) = refl
+
+pub bounded : (text ks xs ys : List ℕ) (count : ℕ) (s : State) (i : ℕ) → length text ≤ 1024 → Scanning text ks xs ys count s i → Bounded 1000000 s
+bounded text ks xs ys count s i l v = go s (v .held) (omega (arith, v .needs, v .within))
+  where
+    go : (s : State) → Held s → need s ≤ 40000 → Bounded 1000000 s
+    go (Letters t n) h m = (h .1, omega arith)
+    go (Field k j a n) h m = (h .1, omega arith)
+    go (Digits k j a v n) h m =
+        let f = h .0 in
+        let b = field-small k (f .kind) j (f .field) in
+        (h .1, omega arith, omega (arith, h .2 .below), earlier-small a k (f .kind) j (f .field) (f .earlier), b .0)
+
+module _ (text ks xs ys : List ℕ) (count : ℕ) (s : State) (i b : ℕ) (v : Scanning text ks xs ys count s i) (l : i < length text) (e : b ≡ getD text i 0) where
+  on-step : (t : Step) → t ≡ step s b → scan text (Letters 0 1) ≡ resume i (v .done) (go (scan (drop (i + 1) text)) t)
+  on-step t q = v .rest ∙ ap (resume i (v .done)) (scan-drop text i s l ∙ ap (go (scan (drop (i + 1) text))) (ap (step s) (sym e) ∙ sym q))
+
+  after-step : (t : Step) → t ≡ step s b → After s b t
+  after-step t q = subst (After s b) (sym q) (step-after s b (v .held))
+
+  pub turn-dead : (t : Step) → t ≡ step s b → t ≡ Dead → scan text (Letters 0 1) ≡ Stop i
+  turn-dead t q d = on-step t q ∙ (ap (λ (x : Step). resume i (v .done) (go (scan (drop (i + 1) text)) x)) d ∙ ap Stop (omega arith))
+
+  pub turn-within : (t : Step) (s′ : State) → t ≡ step s b → t ≡ Within s′ → Scanning text ks xs ys count s′ (i + 1)
+  turn-within t s′ q d =
+      let g : Went s b s′ = subst (After s b) d (after-step t q) in
+      record {
+        done = v .done;
+        within = omega arith;
+        few = omega (arith, v .few);
+        held = g .held;
+        needs = omega (arith, g .needs, v .needs);
+        rest = on-step t q ∙ (ap (λ (x : Step). resume i (v .done) (go (scan (drop (i + 1) text)) x)) d ∙ resume-later i (v .done) (scan (drop (i + 1) text) s′));
+        counted = v .counted;
+        columns = v .columns;
+      }
+
+  pub turn-closed : (t : Step) (k a c : ℕ) (s′ : State) → t ≡ step s b → t ≡ Closed k a c s′ → Scanning text (putAt ks count k) (putAt xs count a) (putAt ys count c) (count + 1) s′ (i + 1)
+  turn-closed t k a c s′ q d =
+      let g : Shut s b (symbol k a c) s′ × Named k a c = subst (After s b) d (after-step t q) in
+      record {
+        done = v .done ++ (symbol k a c ∷ []);
+        within = omega arith;
+        few = omega (arith, v .few);
+        held = g .0 .held;
+        needs = omega (arith, g .0 .needs, v .needs, rank-small (symbol k a c) (g .0 .ranged));
+        rest = on-step t q ∙ (ap (λ (x : Step). resume i (v .done) (go (scan (drop (i + 1) text)) x)) d ∙ resume-after i (v .done) (symbol k a c) (scan (drop (i + 1) text) s′));
+        counted = omega (arith, v .counted, length-append (v .done) (symbol k a c ∷ []));
+        columns = push (v .done) ks xs ys count k a c (v .counted) (g .1) (v .columns);
+      }
+
+-- ── The end of the text ──
+
+drop-all : (l : List ℕ) (i : ℕ) → length l ≤ i → drop i l ≡ []
+drop-all [] zero h = refl
+drop-all [] (suc i) h = refl
+drop-all (x ∷ l) zero h = absurd (omega arith)
+drop-all (x ∷ l) (suc i) h = drop-all l i (omega arith)
+
+pub record Ended (text ks xs ys : List ℕ) (count : ℕ) : Type 0 where
+  pub symbols : List Symbol
+  pub whole : scan text (Letters 0 1) ≡ Whole symbols
+  pub counted : count ≡ length symbols
+  pub columns : length symbols ≤ 32 → Columns symbols ks xs ys
+
+abbrev Ends : Scan → Step → Type 0
+Ends f Dead = f ≡ Stop 0
+Ends f (Within s) = f ≡ Stop 0
+Ends f (Closed k a c s) = (f ≡ Whole (symbol k a c ∷ [])) × Named k a c
+
+ends : (s : State) → Held s → Ends (finish s) (endOf s)
+unfolding finish endOf
+ends (Letters t n) h = refl
+ends (Field k j a n) h = refl
+ends (Digits k j a v n) h =
+    cases (leb (low k j) v) (λ c. Ends (cond c (cond (ltb (j + 1) (fieldCount k)) (Stop 0) (last k (firstField j a v) (secondField j v) n)) (Stop 0)) (cond c (cond (ltb (j + 1) (fieldCount k)) Dead (final k (firstField j a v) (secondField j v) n)) Dead))
+    (λ e. cases (ltb (j + 1) (fieldCount k)) (λ c. (c ≡ false → fieldCount k ≤ j + 1) → Ends (cond c (Stop 0) (last k (firstField j a v) (secondField j v) n)) (cond c Dead (final k (firstField j a v) (secondField j v) n)))
+    (λ g z. refl)
+    (λ g z. cases (eqb (n + arity k (firstField j a v)) 1) (λ c. Ends (cond c (Whole (symbol k (firstField j a v) (secondField j v) ∷ [])) (Stop 0)) (cond c (Closed k (firstField j a v) (secondField j v) (Letters 0 0)) Dead))
+    (λ q. (refl, named-last a v k (h .0 .kind) j (h .0 .field) (z refl))) (λ q. refl))
+    (ltb-false (j + 1) (fieldCount k)))
+    (λ e. refl)
+
+module _ (text ks xs ys : List ℕ) (count : ℕ) (s : State) (i : ℕ) (v : Scanning text ks xs ys count s i) (l : length text ≤ i) where
+  at-end : scan text (Letters 0 1) ≡ resume i (v .done) (finish s)
+  unfolding scan
+  at-end = v .rest ∙ ap (λ (w : List ℕ). resume i (v .done) (scan w s)) (drop-all text i l)
+
+  pub end-dead : (t : Step) → t ≡ endOf s → t ≡ Dead → scan text (Letters 0 1) ≡ Stop i
+  end-dead t q d = let g : finish s ≡ Stop 0 = subst (Ends (finish s)) (sym q ∙ d) (ends s (v .held)) in at-end ∙ (ap (resume i (v .done)) g ∙ ap Stop (omega arith))
+
+  pub end-within : (t : Step) (s′ : State) → t ≡ endOf s → t ≡ Within s′ → scan text (Letters 0 1) ≡ Stop i
+  end-within t s′ q d = let g : finish s ≡ Stop 0 = subst (Ends (finish s)) (sym q ∙ d) (ends s (v .held)) in at-end ∙ (ap (resume i (v .done)) g ∙ ap Stop (omega arith))
+
+  pub end-closed : (t : Step) (k a c : ℕ) (s′ : State) → t ≡ endOf s → t ≡ Closed k a c s′ → Ended text (putAt ks count k) (putAt xs count a) (putAt ys count c) (count + 1)
+  end-closed t k a c s′ q d =
+      let g : (finish s ≡ Whole (symbol k a c ∷ [])) × Named k a c = subst (Ends (finish s)) (sym q ∙ d) (ends s (v .held)) in
+      record {
+        symbols = v .done ++ (symbol k a c ∷ []);
+        whole = at-end ∙ ap (resume i (v .done)) (g .0);
+        counted = omega (arith, v .counted, length-append (v .done) (symbol k a c ∷ []));
+        columns = push (v .done) ks xs ys count k a c (v .counted) (g .1) (v .columns);
+      }
+
+-- ── What the answers tell ──
+
+pub tells-stop : (x : Scan) (i : ℕ) (r : Scanned) → x ≡ Stop i → (r .whole ≡ false) × (r .place ≡ i) → Tells x r
+tells-stop x i r e h = subst (λ (y : Scan). Tells y r) (sym e) h
+
+pub scanning-at : (text ks xs ys ks′ xs′ ys′ : List ℕ) (count : ℕ) (s : State) (i : ℕ) → ks′ ≡ ks → xs′ ≡ xs → ys′ ≡ ys → Scanning text ks xs ys count s i → Scanning text ks′ xs′ ys′ count s i
+scanning-at text ks xs ys ks′ xs′ ys′ count s i p q r v = subst (λ (z : List ℕ). Scanning text z xs′ ys′ count s i) (sym p) (subst (λ (z : List ℕ). Scanning text ks z ys′ count s i) (sym q) (subst (λ (z : List ℕ). Scanning text ks xs z count s i) (sym r) v))
+
+pub tells-whole : (text ks xs ys ks′ xs′ ys′ : List ℕ) (n : ℕ) → ks′ ≡ ks → xs′ ≡ xs → ys′ ≡ ys → Ended text ks xs ys n → Tells (scan text (Letters 0 1)) (record { whole = true; place = 0; count = n; kind = ks′; first = xs′; second = ys′ })
+tells-whole text ks xs ys ks′ xs′ ys′ n p q r v =
+    subst (λ (y : Scan). Tells y (record { whole = true; place = 0; count = n; kind = ks′; first = xs′; second = ys′ })) (sym (v .whole))
+    (refl, v .counted, λ h. let g = v .columns h in record { kinds = p ∙ g .kinds; firsts = q ∙ g .firsts; seconds = r ∙ g .seconds })

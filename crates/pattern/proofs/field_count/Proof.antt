@@ -1,0 +1,20 @@
+use borrow.Author.Tests.{lt-ltb, le-ltb, le-leb, lt-leb, eq-eqb, ne-eqb}
+use Rattle.pattern.proofs.field_count.Statement.{statement}
+use Rattle.pattern.proofs.field_count.Tie as tie
+use Rattle.pattern.proofs.field_count.Reads as reads
+use Rattle.pattern.proofs.field_count.Lts as lts
+
+-- src/lib.rt:75:1
+returns : tie.Need-returns
+returns c = simp (lt-ltb _ _ (c .before .if1 .taken), eq-eqb _ _ (c .if2 .taken))
+
+-- src/lib.rt:75:1
+returns-2 : tie.Need-returns-2
+returns-2 c = simp (lt-ltb _ _ (c .before .if1 .taken), ne-eqb _ _ (c .if2 .left))
+
+-- src/lib.rt:75:1
+returns-3 : tie.Need-returns-3
+returns-3 c = simp (le-ltb _ _ (c .if1 .left))
+
+pub field-count-spec : {M : Type 1} → statement M
+field-count-spec = tie.close (tie.spec returns returns-2 returns-3)

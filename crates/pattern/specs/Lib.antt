@@ -1,0 +1,5 @@
+pub mod Decimal
+pub mod Pattern
+pub mod Rows
+pub mod Automaton
+pub mod Answer

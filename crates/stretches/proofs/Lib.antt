@@ -1,0 +1,10 @@
+pub mod Lists
+pub mod Tuples
+pub mod Answers
+pub mod Fronts
+pub mod Window
+pub mod Cut
+pub mod Marks
+pub mod Steps
+pub mod Ordered
+pub mod Tight

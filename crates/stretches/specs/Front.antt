@@ -1,0 +1,15 @@
+-- The first stretch of a list from a line on. Assumes nothing.
+use Prim.Native.Nat.{ℕ}
+use mathlib.Core.Bool.{cond}
+use mathlib.Core.List.{List, [], _∷_}
+use lib.Dec.{leb}
+use Rattle.stretches.specs.Stretch.{Stretch}
+
+pub data Front : Type 0 where
+  None : Front
+  At : Stretch → Front
+
+-- the first of the list that starts at t or later
+abbrev pub firstFrom : List Stretch → ℕ → Front
+firstFrom [] t = None
+firstFrom (x ∷ xs) t = cond (leb t (x .start)) (At x) (firstFrom xs t)
