@@ -1,2 +1,4 @@
 pub mod Tree
 pub mod Run
+pub mod Finding
+pub mod Filling

@@ -1,11 +1,10 @@
--- Worked examples of the paper: the place where a misspelt pattern stops, and the symbols of a whole one.
+-- Worked examples: the place where a misspelt pattern stops, computed, and the pattern of a whole text.
 -- Assumes nothing.
-use Prim.Native.Nat.{ℕ}
 use mathlib.Core.Path.{_≡_, refl}
-use mathlib.Core.List.{List, [], _∷_}
-use Rattle.pattern.specs.Pattern.{Ev, Then}
-use Rattle.pattern.specs.declared.State.the-variants.{Letters}
-use Rattle.pattern.specs.Automaton.{symbol, child, wordAt, step, finish, Stop, Whole, scan}
+use mathlib.Core.List.{[], _∷_}
+use Rattle.pattern.specs.Pattern.{Ev, Then, Node, Nil, Cons}
+use Rattle.pattern.specs.Automaton.{symbol, child, wordAt, step, finish, scan}
+use Rattle.pattern.specs.Reading.{build, outcomeOf, Accepts}
 use Rattle.pattern.proofs.Trees.{Misread, reading}
 
 -- or,1,ev,1,0
@@ -59,6 +58,8 @@ unfolding child wordAt step finish scan
 empty = reading ([])
 
 -- then,2,ev,7,0,ev,9,0
-whole : scan (116 ∷ 104 ∷ 101 ∷ 110 ∷ 44 ∷ 50 ∷ 44 ∷ 101 ∷ 118 ∷ 44 ∷ 55 ∷ 44 ∷ 48 ∷ 44 ∷ 101 ∷ 118 ∷ 44 ∷ 57 ∷ 44 ∷ 48 ∷ []) (Letters 0 1) ≡ Whole (Then 2 ∷ Ev 7 0 ∷ Ev 9 0 ∷ [])
-unfolding symbol child wordAt step finish scan
+whole :
+    outcomeOf (116 ∷ 104 ∷ 101 ∷ 110 ∷ 44 ∷ 50 ∷ 44 ∷ 101 ∷ 118 ∷ 44 ∷ 55 ∷ 44 ∷ 48 ∷ 44 ∷ 101 ∷ 118 ∷ 44 ∷ 57 ∷ 44 ∷ 48 ∷ [])
+    ≡ Accepts (Node (Then 2) (Cons (Node (Ev 7 0) Nil) (Cons (Node (Ev 9 0) Nil) Nil)))
+unfolding symbol child wordAt step finish scan build outcomeOf
 whole = refl

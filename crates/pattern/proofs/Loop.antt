@@ -3,57 +3,65 @@
 use Prim.Native.Nat.{ℕ, zero, suc, _+_, _-_, _*_, _≤_, _<_}
 use mathlib.Core.Path.{_≡_, refl, sym, ap, ap₂, subst, _∙_}
 use mathlib.Core.Bool.{Bool, true, false, cond}
-use mathlib.Core.List.{List, [], _∷_, _++_, map, append-nil, append-assoc}
+use mathlib.Core.List.{List, [], _∷_, _++_, map, append-assoc}
 use lib.Dec.{leb, ltb, eqb}
 use lib.ListN.{length, getD, drop, set, replicate, length-append}
 use lib.Seq.{drop-cons}
 use borrow.Author.Tests.{ltb-false, lt-ltb}
 use native.Mathlib.Numerals.{add-one}
 use native.Mathlib.Omega.{arith}
-use Rattle.pattern.specs.Pattern.{Symbol, Ranged, rank}
+use Rattle.pattern.specs.Pattern.{Symbol}
 use Rattle.pattern.specs.declared.State.{State}
 use Rattle.pattern.specs.declared.State.the-variants.{Letters, Field, Digits}
 use Rattle.pattern.specs.declared.Scanned.{Scanned}
 use Rattle.pattern.specs.declared.Step.{Step}
 use Rattle.pattern.specs.declared.Step.the-variants.{Dead, Within, Closed}
-use Rattle.pattern.specs.Automaton.{symbol, fieldCount, low, high, arity, firstField, secondField, step, Bounded, final, endOf, Scan, Stop, Whole, later, after, last, finish, go, scan, putAt, Columns, Tells}
+use Rattle.pattern.specs.Automaton.{symbol, fieldCount, low, arity, firstField, secondField, step, Bounded, final, endOf, Scan, Stop, Whole, later, after, last, finish, go, scan, putAt, Columns, Tells}
 use Rattle.pattern.specs.Rows.{kindOf, firstOf, secondOf, padded}
 use Rattle.pattern.proofs.Basics.{cases}
 use Rattle.pattern.proofs.Fields.{Named, named-last, field-small, earlier-small, rank-small}
-use Rattle.pattern.proofs.Scanning.{Held, need, After, Went, Shut, InField, step-after}
+use Rattle.pattern.proofs.Scanning.{Held, need, After, Went, Shut, step-after}
 
 -- ── What is left to scan, and what has been ──
 
+-- the scan of the whole from that of the rest
 abbrev pub resume : ℕ → List Symbol → Scan → Scan
 resume i done (Stop p) = Stop (i + p)
 resume i done (Whole hs) = Whole (done ++ hs)
 
+-- a byte further, inside a symbol
 resume-later : (i : ℕ) (done : List Symbol) (r : Scan) → resume i done (later r) ≡ resume (i + 1) done r
 resume-later i done (Stop p) = ap Stop (omega arith)
 resume-later i done (Whole hs) = refl
 
+-- a byte further, past a symbol
 resume-after : (i : ℕ) (done : List Symbol) (h : Symbol) (r : Scan) → resume i done (after h r) ≡ resume (i + 1) (done ++ (h ∷ [])) r
 resume-after i done h (Stop p) = ap Stop (omega arith)
 resume-after i done h (Whole hs) = ap Whole (sym (append-assoc done (h ∷ []) hs))
 
+-- the scan from place i on, by its first byte
 scan-drop : (text : List ℕ) (i : ℕ) (s : State) → i < length text → scan (drop i text) s ≡ go (scan (drop (i + 1) text)) (step s (getD text i 0))
 unfolding scan
 scan-drop text i s h = ap (λ (w : List ℕ). scan w s) (drop-cons text i 0 h) ∙ ap (λ (m : ℕ). go (scan (drop m text)) (step s (getD text i 0))) (sym (add-one i))
 
 -- ── Columns ──
 
+-- a column with one symbol more
 map-snoc : (f : Symbol → ℕ) (xs : List Symbol) (h : Symbol) → map f (xs ++ (h ∷ [])) ≡ map f xs ++ (f h ∷ [])
 map-snoc f [] h = refl
 map-snoc f (x ∷ xs) h = ap (λ (l : List ℕ). f x ∷ l) (map-snoc f xs h)
 
+-- a column is as long as its symbols
 pub map-length : (f : Symbol → ℕ) (xs : List Symbol) → length (map f xs) ≡ length xs
 map-length f [] = refl
 map-length f (x ∷ xs) = ap suc (map-length f xs)
 
+-- a store past the first list
 set-append : (l r : List ℕ) (y x : ℕ) → set (l ++ (y ∷ r)) (length l) x ≡ l ++ (x ∷ r)
 set-append [] r y x = refl
 set-append (z ∷ l) r y x = ap (λ (t : List ℕ). z ∷ t) (set-append l r y x)
 
+-- a store past a padded list makes it longer
 set-padded : (l : List ℕ) (x : ℕ) → length l < 32 → set (padded l) (length l) x ≡ padded (l ++ (x ∷ []))
 set-padded l x h =
     let e : 32 - length l ≡ suc (31 - length l) = omega arith in
@@ -62,11 +70,13 @@ set-padded l x h =
     ∙ (set-append l (replicate (31 - length l) 0) 0 x
     ∙ (sym (append-assoc l (x ∷ []) (replicate (31 - length l) 0)) ∙ ap (λ (m : ℕ). (l ++ (x ∷ [])) ++ replicate m 0) g))
 
+-- so a column takes a symbol more
 set-column : (f : Symbol → ℕ) (xs : List Symbol) (h : Symbol) (l : List ℕ) (n x : ℕ) → n ≡ length xs → n < 32 → f h ≡ x → l ≡ padded (map f xs) → putAt l n x ≡ padded (map f (xs ++ (h ∷ [])))
 set-column f xs h l n x e p q g =
     let m : n ≡ length (map f xs) = omega (arith, map-length f xs) in
     ap (λ (c : Bool). cond c (set l n x) l) (lt-ltb n 32 p) ∙ (ap₂ (λ (t : List ℕ) (m : ℕ). set t m x) g m ∙ (set-padded (map f xs) x (omega arith) ∙ ap padded (ap (λ (y : ℕ). map f xs ++ (y ∷ [])) (sym q) ∙ sym (map-snoc f xs h))))
 
+-- and so do the three
 push : (xs : List Symbol) (ks as′ cs : List ℕ) (n k a c : ℕ) → n ≡ length xs → Named k a c → (length xs ≤ 32 → Columns xs ks as′ cs)
     → length (xs ++ (symbol k a c ∷ [])) ≤ 32 → Columns (xs ++ (symbol k a c ∷ [])) (putAt ks n k) (putAt as′ n a) (putAt cs n c)
 push xs ks as′ cs n k a c e m f l =
@@ -80,6 +90,7 @@ push xs ks as′ cs n k a c e m f l =
 
 -- ── The invariant ──
 
+-- i bytes are read: their symbols are in the columns, and the state scans the rest
 pub record Scanning (text ks xs ys : List ℕ) (count : ℕ) (s : State) (i : ℕ) : Type 0 where
   pub done : List Symbol
   pub within : i ≤ length text
@@ -90,6 +101,7 @@ pub record Scanning (text ks xs ys : List ℕ) (count : ℕ) (s : State) (i : �
   pub counted : count ≡ length done
   pub columns : length done ≤ 32 → Columns done ks xs ys
 
+-- at the start
 pub begin : (text : List ℕ) → Scanning text (replicate 32 0) (replicate 32 0) (replicate 32 0) 0 (Letters 0 1) 0
 begin text = record {
   done = [];
@@ -106,6 +118,7 @@ begin text = record {
     same (Stop p) = ap Stop (omega arith)
     same (Whole hs) = refl
 
+-- the numbers of the state stay small
 pub bounded : (text ks xs ys : List ℕ) (count : ℕ) (s : State) (i : ℕ) → length text ≤ 1024 → Scanning text ks xs ys count s i → Bounded 1000000 s
 bounded text ks xs ys count s i l v = go s (v .held) (omega (arith, v .needs, v .within))
   where
@@ -157,23 +170,27 @@ module _ (text ks xs ys : List ℕ) (count : ℕ) (s : State) (i b : ℕ) (v : S
 
 -- ── The end of the text ──
 
+-- nothing is left past the end
 drop-all : (l : List ℕ) (i : ℕ) → length l ≤ i → drop i l ≡ []
 drop-all [] zero h = refl
 drop-all [] (suc i) h = refl
 drop-all (x ∷ l) zero h = absurd (omega arith)
 drop-all (x ∷ l) (suc i) h = drop-all l i (omega arith)
 
+-- the text is read whole, and its symbols are in the columns
 pub record Ended (text ks xs ys : List ℕ) (count : ℕ) : Type 0 where
   pub symbols : List Symbol
   pub whole : scan text (Letters 0 1) ≡ Whole symbols
   pub counted : count ≡ length symbols
   pub columns : length symbols ≤ 32 → Columns symbols ks xs ys
 
+-- what the code makes of the end of the text is what the scan does
 abbrev Ends : Scan → Step → Type 0
 Ends f Dead = f ≡ Stop 0
 Ends f (Within s) = f ≡ Stop 0
 Ends f (Closed k a c s) = (f ≡ Whole (symbol k a c ∷ [])) × Named k a c
 
+-- in every state
 ends : (s : State) → Held s → Ends (finish s) (endOf s)
 unfolding finish endOf
 ends (Letters t n) h = refl
@@ -210,12 +227,15 @@ module _ (text ks xs ys : List ℕ) (count : ℕ) (s : State) (i : ℕ) (v : Sca
 
 -- ── What the answers tell ──
 
+-- a stop is told
 pub tells-stop : (x : Scan) (i : ℕ) (r : Scanned) → x ≡ Stop i → (r .whole ≡ false) × (r .place ≡ i) → Tells x r
 tells-stop x i r e h = subst (λ (y : Scan). Tells y r) (sym e) h
 
+-- the columns by their equations
 pub scanning-at : (text ks xs ys ks′ xs′ ys′ : List ℕ) (count : ℕ) (s : State) (i : ℕ) → ks′ ≡ ks → xs′ ≡ xs → ys′ ≡ ys → Scanning text ks xs ys count s i → Scanning text ks′ xs′ ys′ count s i
 scanning-at text ks xs ys ks′ xs′ ys′ count s i p q r v = subst (λ (z : List ℕ). Scanning text z xs′ ys′ count s i) (sym p) (subst (λ (z : List ℕ). Scanning text ks z ys′ count s i) (sym q) (subst (λ (z : List ℕ). Scanning text ks xs z count s i) (sym r) v))
 
+-- a whole text is told
 pub tells-whole : (text ks xs ys ks′ xs′ ys′ : List ℕ) (n : ℕ) → ks′ ≡ ks → xs′ ≡ xs → ys′ ≡ ys → Ended text ks xs ys n → Tells (scan text (Letters 0 1)) (record { whole = true; place = 0; count = n; kind = ks′; first = xs′; second = ys′ })
 tells-whole text ks xs ys ks′ xs′ ys′ n p q r v =
     subst (λ (y : Scan). Tells y (record { whole = true; place = 0; count = n; kind = ks′; first = xs′; second = ys′ })) (sym (v .whole))

@@ -1,28 +1,27 @@
 -- What a state of the automaton stands for, that each step keeps it, and that a state always goes on to a pattern.
 -- Assumes nothing.
 use Prim.Native.Nat.{ℕ, zero, suc, _+_, _-_, _*_, _≤_, _<_}
-use mathlib.Core.Path.{_≡_, refl, sym, ap, ap₂, _∙_}
-use mathlib.Core.Bool.{Bool, true, false, not, cond, _&&_, _||_}
-use mathlib.Core.Logic.{_⊎_, inl, inr}
-use mathlib.Core.List.{List, [], _∷_, _++_, append-nil, append-assoc}
+use mathlib.Core.Path.{_≡_, refl, sym, ap, _∙_}
+use mathlib.Core.Bool.{true, not, cond, _&&_}
+use mathlib.Core.List.{List, [], _∷_, _++_, append-assoc}
 use lib.Dec.{leb, ltb, eqb}
-use lib.ListN.{length, take}
-use borrow.Author.Tests.{eqb-true, eqb-false, leb-true, leb-false, ltb-true, ltb-false, not-true, le-leb, lt-ltb, le-ltb}
+use borrow.Author.Tests.{eqb-true, eqb-false, leb-true, ltb-true, ltb-false, not-true}
 use native.Mathlib.Omega.{arith}
-use Rattle.pattern.specs.Decimal.{digitsOf, decimal}
-use Rattle.pattern.specs.Pattern.{Symbol, Ev, Fr, Or, And, Row, Then, Less, Max, word, numbers, listed, spellSymbol, Ranged, InRange, rank}
+use Rattle.pattern.specs.Decimal.{decimal}
+use Rattle.pattern.specs.Pattern.{Symbol, Ev, spellSymbol, Ranged, InRange, rank}
 use Rattle.pattern.specs.declared.State.{State}
 use Rattle.pattern.specs.declared.State.the-variants.{Letters, Field, Digits}
 use Rattle.pattern.specs.declared.Step.{Step}
 use Rattle.pattern.specs.declared.Step.the-variants.{Dead, Within, Closed}
-use Rattle.pattern.specs.Automaton.{symbol, fieldCount, low, high, arity, firstField, secondField, child, wordAt, live, digit, number, shut, wordEnd, numberEnd, letter, step, Scan, Stop, Whole, later, after, last, finish, go, scan}
-use Rattle.pattern.proofs.Basics.{cases, and-true, true-and, or-true, le-or-lt}
-use Rattle.pattern.proofs.Numbers.{decimal-small, decimal-large, Starts, live-starts, starts-live, Completed, starts-completed}
-use Rattle.pattern.proofs.Words.{wordOf, path, onward, path-onward, Kind, wayAt, way-kind, child-grown, word-ended}
-use Rattle.pattern.proofs.Fields.{rank-arity, lead, spelt-last, lead-next, Earlier, ranged-last, low-small, Bare, bare, earlier-next, Named, named-last, Goes, goes, WordGoes, word-goes}
+use Rattle.pattern.specs.Automaton.{symbol, fieldCount, low, high, arity, firstField, secondField, child, wordAt, live, digit, number, shut, wordEnd, numberEnd, letter, step}
+use Rattle.pattern.proofs.Basics.{cases, and-true}
+use Rattle.pattern.proofs.Numbers.{decimal-small, decimal-large, Starts, live-starts, starts-completed}
+use Rattle.pattern.proofs.Words.{path, onward, path-onward, Kind, wayAt, way-kind, child-grown, word-ended}
+use Rattle.pattern.proofs.Fields.{rank-arity, lead, spelt-last, lead-next, Earlier, ranged-last, low-small, bare, earlier-next, Named, named-last, goes, word-goes}
 
 -- ── Lists of symbols ──
 
+-- each spelling after a comma
 abbrev pub afters : List Symbol → List ℕ
 afters [] = []
 afters (h ∷ hs) = 44 ∷ (spellSymbol h ++ afters hs)
@@ -37,6 +36,7 @@ abbrev pub Counts : ℕ → List Symbol → Type 0
 Counts n [] = n ≡ 0
 Counts n (h ∷ hs) = (1 ≤ n) × Counts (n + rank h - 1) hs
 
+-- each symbol's numbers are in range
 abbrev pub AllRanged : List Symbol → Type 0
 AllRanged [] = Unit {0}
 AllRanged (h ∷ hs) = Ranged h × AllRanged hs
@@ -55,11 +55,13 @@ pending (Letters t n) = path t
 pending (Field k j a n) = lead k j a
 pending (Digits k j a v n) = lead k j a ++ decimal v
 
+-- a field of a kind of symbols, with the number before it in range
 pub record InField (k j a : ℕ) : Type 0 where
   pub kind : Kind k
   pub field : j < fieldCount k
   pub earlier : Earlier k j a
 
+-- what holds of a state
 abbrev pub Held : State → Type 0
 Held (Letters t n) = (t < 24) × (1 ≤ n)
 Held (Field k j a n) = InField k j a × (1 ≤ n)
@@ -67,11 +69,13 @@ Held (Digits k j a v n) = InField k j a × (1 ≤ n) × Starts (low k j) (high k
 
 -- ── A step ──
 
+-- a byte inside a symbol
 pub record Went (s : State) (b : ℕ) (s′ : State) : Type 0 where
   pub held : Held s′
   pub pends : pending s′ ≡ pending s ++ (b ∷ [])
   pub needs : need s′ ≡ need s
 
+-- a byte that ends the symbol h
 pub record Shut (s : State) (b : ℕ) (h : Symbol) (s′ : State) : Type 0 where
   pub held : Held s′
   pub comma : b ≡ 44
@@ -80,11 +84,13 @@ pub record Shut (s : State) (b : ℕ) (h : Symbol) (s′ : State) : Type 0 where
   pub spelt : pending s ≡ spellSymbol h
   pub ranged : Ranged h
 
+-- what a step does
 abbrev pub After : State → ℕ → Step → Type 0
 After s b Dead = Unit {0}
 After s b (Within s′) = Went s b s′
 After s b (Closed k a c s′) = Shut s b (symbol k a c) s′ × Named k a c
 
+-- a comma after a whole symbol
 shut-after : (s : State) (b k a c n : ℕ) → b ≡ 44 → Kind k → 1 ≤ n → n ≡ need s → pending s ≡ spellSymbol (symbol k a c) → Ranged (symbol k a c) → Named k a c → After s b (shut k a c n)
 unfolding path
 shut-after s b k a c n e h p q sp r m =
@@ -92,11 +98,13 @@ shut-after s b k a c n e h p q sp r m =
     (λ t. let ne : n + arity k a ≡ 1 → ⊥ = eqb-false (n + arity k a) 1 t in
     (record { held = (omega arith, omega arith); comma = e; pends = refl; needs = omega (arith, rank-arity a c k h); spelt = sp; ranged = r }, m))
 
+-- a letter
 letter-after : (t n b : ℕ) → Held (Letters t n) → After (Letters t n) b (letter (child t b) n)
 letter-after t n b h =
     cases (eqb (child t b) 0) (λ c. After (Letters t n) b (cond c Dead (Within (Letters (child t b) n)))) (λ c. tt)
     (λ c. let g = child-grown t b (eqb-false (child t b) 0 c) in record { held = (g .below, h .1); pends = g .grown; needs = refl })
 
+-- a comma after a word
 word-after : (t n b : ℕ) → Held (Letters t n) → b ≡ 44 → After (Letters t n) b (wordEnd (wordAt t) n)
 unfolding lead
 word-after t n b h e =
@@ -112,9 +120,11 @@ word-after t n b h e =
       needs = refl;
     }))
 
+-- a digit is from 48 to 57
 digit-true : (b : ℕ) → digit b ≡ true → (48 ≤ b) × (b ≤ 57)
 digit-true b h = let p = and-true (leb 48 b) (leb b 57) h in (leb-true 48 b (p .0), leb-true b 57 (p .1))
 
+-- the first digit of a number
 field-after : (k j a n b : ℕ) → Held (Field k j a n) → After (Field k j a n) b (cond (digit b) (number k j a (b - 48) n) Dead)
 field-after k j a n b h =
     cases (digit b) (λ c. After (Field k j a n) b (cond c (number k j a (b - 48) n) Dead))
@@ -126,6 +136,7 @@ field-after k j a n b h =
       needs = refl;
     }) (λ l. tt)) (λ c. tt)
 
+-- a further digit
 more-after : (k j a v n b : ℕ) → Held (Digits k j a v n) → After (Digits k j a v n) b (cond (digit b && not (eqb v 0)) (number k j a (10 * v + (b - 48)) n) Dead)
 more-after k j a v n b h =
     cases (digit b && not (eqb v 0)) (λ c. After (Digits k j a v n) b (cond c (number k j a (10 * v + (b - 48)) n) Dead))
@@ -139,6 +150,7 @@ more-after k j a v n b h =
       needs = refl;
     }) (λ l. tt)) (λ c. tt)
 
+-- a comma after a number
 end-after : (k j a v n b : ℕ) → Held (Digits k j a v n) → b ≡ 44 → After (Digits k j a v n) b (numberEnd k j a v n)
 end-after k j a v n b h e =
     cases (leb (low k j) v) (λ c. After (Digits k j a v n) b (cond c (cond (ltb (j + 1) (fieldCount k)) (Within (Field k (j + 1) v n)) (shut k (firstField j a v) (secondField j v) n)) Dead))
@@ -154,6 +166,7 @@ end-after k j a v n b h e =
     shut-after (Digits k j a v n) b k (firstField j a v) (secondField j v) n e (f .kind) (h .1) refl (spelt-last a v k (f .kind) j (f .field) l) (ranged-last a v k (f .kind) j (f .field) l (f .earlier) r) (named-last a v k (f .kind) j (f .field) l)))
     (λ c. tt)
 
+-- every byte, in every state
 pub step-after : (s : State) (b : ℕ) → Held s → After s b (step s b)
 unfolding step
 step-after (Letters t n) b h = cases (eqb b 44) (λ c. After (Letters t n) b (cond c (wordEnd (wordAt t) n) (letter (child t b) n))) (λ c. word-after t n b h (eqb-true b 44 c)) (λ c. letter-after t n b h)
@@ -169,10 +182,12 @@ abbrev pub leaves : ℕ → List Symbol
 leaves zero = []
 leaves (suc n) = Ev 1 0 ∷ leaves n
 
+-- they are as many trees
 leaves-count : (n : ℕ) → Counts n (leaves n)
 leaves-count zero = refl
 leaves-count (suc n) = (omega arith, rw (let e : suc n + 0 - 1 ≡ n = omega arith in e) (leaves-count n))
 
+-- and in range
 leaves-ranged : (n : ℕ) → AllRanged (leaves n)
 leaves-ranged zero = tt
 leaves-ranged (suc n) = (((omega arith, omega arith), (omega arith, omega arith)), leaves-ranged n)
@@ -185,6 +200,7 @@ pub record Completes (s : State) (x : List ℕ) : Type 0 where
   pub counts : Counts (need s) symbols
   pub ranged : AllRanged symbols
 
+-- a state goes on by the rest of its symbol, and leaves
 with-leaves : (s : State) (z : List ℕ) (h : Symbol) → 1 ≤ need s → Ranged h → pending s ++ z ≡ spellSymbol h → Completes s []
 with-leaves s z h p r e = record {
   rest = z ++ afters (leaves (need s + rank h - 1));
@@ -194,6 +210,7 @@ with-leaves s z h p r e = record {
   ranged = (r, leaves-ranged (need s + rank h - 1));
 }
 
+-- every state goes on to a pattern
 pub completes : (s : State) → Held s → Completes s []
 completes (Letters t n) h =
     let w = word-goes (wayAt t) (way-kind t (h .0)) in
@@ -211,100 +228,3 @@ completes (Digits k j a v n) h =
     let g = goes a (c .number) k (f .kind) j (f .field) (f .earlier) (c .ranged) in
     with-leaves (Digits k j a v n) (c .rest ++ g .rest) (g .whole) (h .1) (g .ranged)
     (append-assoc (lead k j a) (decimal v) (c .rest ++ g .rest) ∙ (ap (λ (x : List ℕ). lead k j a ++ x) (sym (append-assoc (decimal v) (c .rest) (g .rest)) ∙ ap (λ (x : List ℕ). x ++ g .rest) (c .spelt)) ∙ g .spelt))
-
--- ── What a scan says ──
-
-pub record Reads (s : State) (w : List ℕ) (hs : List Symbol) : Type 0 where
-  pub spelt : pending s ++ w ≡ joined hs
-  pub counts : Counts (need s) hs
-  pub ranged : AllRanged hs
-
-pub record Stops (s : State) (w : List ℕ) (p : ℕ) : Type 0 where
-  pub within : p ≤ length w
-  pub completes : Completes s (take p w)
-
-abbrev pub Means : State → List ℕ → Scan → Type 0
-Means s w (Stop p) = Stops s w p
-Means s w (Whole hs) = Reads s w hs
-
-stop-here : (s : State) (w : List ℕ) → Held s → Stops s w 0
-stop-here s w h = record { within = omega arith; completes = completes s h }
-
-later-means : (s : State) (b : ℕ) (s′ : State) (w : List ℕ) → Went s b s′ → (r : Scan) → Means s′ w r → Means s (b ∷ w) (later r)
-later-means s b s′ w g (Stop p) m = record {
-  within = omega (arith, m .within);
-  completes = record {
-    rest = m .completes .rest;
-    symbols = m .completes .symbols;
-    spelt = sym (append-assoc (pending s) (b ∷ []) (take p w ++ m .completes .rest)) ∙ (ap (λ (x : List ℕ). x ++ (take p w ++ m .completes .rest)) (sym (g .pends)) ∙ m .completes .spelt);
-    counts = rw (← g .needs) (m .completes .counts);
-    ranged = m .completes .ranged;
-  };
-}
-later-means s b s′ w g (Whole hs) m = record {
-  spelt = sym (append-assoc (pending s) (b ∷ []) w) ∙ (ap (λ (x : List ℕ). x ++ w) (sym (g .pends)) ∙ m .spelt);
-  counts = rw (← g .needs) (m .counts);
-  ranged = m .ranged;
-}
-
--- after a whole symbol and its comma, the text that follows starts with a symbol
-joined-after : (x : List ℕ) (hs : List Symbol) (n : ℕ) → 1 ≤ n → Counts n hs → x ≡ joined hs → 44 ∷ x ≡ afters hs
-joined-after x [] n p c e = absurd (omega arith)
-joined-after x (h ∷ hs) n p c e = ap (λ (y : List ℕ). 44 ∷ y) e
-
-after-means : (s : State) (b : ℕ) (h : Symbol) (s′ : State) (w : List ℕ) → 1 ≤ need s → Shut s b h s′ → 1 ≤ need s′ → (r : Scan) → Means s′ w r → Means s (b ∷ w) (after h r)
-after-means s b h s′ w n g n′ (Stop p) m = record {
-  within = omega (arith, m .within);
-  completes = record {
-    rest = m .completes .rest;
-    symbols = h ∷ m .completes .symbols;
-    spelt = ap₂ (λ (x : List ℕ) (y : ℕ). x ++ (y ∷ (take p w ++ m .completes .rest))) (g .spelt) (g .comma)
-        ∙ ap (λ (x : List ℕ). spellSymbol h ++ x) (joined-after (take p w ++ m .completes .rest) (m .completes .symbols) (need s′) n′ (m .completes .counts) (ap (λ (x : List ℕ). x ++ (take p w ++ m .completes .rest)) (sym (g .pends)) ∙ m .completes .spelt));
-    counts = (n, rw (← g .needs) (m .completes .counts));
-    ranged = (g .ranged, m .completes .ranged);
-  };
-}
-after-means s b h s′ w n g n′ (Whole hs) m = record {
-  spelt = ap₂ (λ (x : List ℕ) (y : ℕ). x ++ (y ∷ w)) (g .spelt) (g .comma)
-      ∙ ap (λ (x : List ℕ). spellSymbol h ++ x) (joined-after w hs (need s′) n′ (m .counts) (ap (λ (x : List ℕ). x ++ w) (sym (g .pends)) ∙ m .spelt));
-  counts = (n, rw (← g .needs) (m .counts));
-  ranged = (g .ranged, m .ranged);
-}
-
-pub held-need : (s : State) → Held s → 1 ≤ need s
-held-need (Letters t n) h = h .1
-held-need (Field k j a n) h = h .1
-held-need (Digits k j a v n) h = h .1
-
-go-means : (s : State) (b : ℕ) (w : List ℕ) → Held s → ((s′ : State) → Held s′ → Means s′ w (scan w s′)) → (t : Step) → After s b t → Means s (b ∷ w) (go (scan w) t)
-go-means s b w h f Dead a = stop-here s (b ∷ w) h
-go-means s b w h f (Within s′) a = later-means s b s′ w a (scan w s′) (f s′ (a .held))
-go-means s b w h f (Closed k x y s′) a = after-means s b (symbol k x y) s′ w (held-need s h) (a .0) (held-need s′ (a .0 .held)) (scan w s′) (f s′ (a .0 .held))
-
-last-means : (k j a v n : ℕ) → Held (Digits k j a v n) → low k j ≤ v → fieldCount k ≤ j + 1 → Means (Digits k j a v n) [] (last k (firstField j a v) (secondField j v) n)
-last-means k j a v n h r l =
-    cases (eqb (n + arity k (firstField j a v)) 1) (λ c. Means (Digits k j a v n) [] (cond c (Whole (symbol k (firstField j a v) (secondField j v) ∷ [])) (Stop 0)))
-    (λ c. record {
-      spelt = append-nil (lead k j a ++ decimal v) ∙ (spelt-last a v k (f .kind) j (f .field) l ∙ sym (append-nil (spellSymbol (symbol k (firstField j a v) (secondField j v)))));
-      counts = (h .1, omega (arith, rank-arity (firstField j a v) (secondField j v) k (f .kind), eqb-true (n + arity k (firstField j a v)) 1 c));
-      ranged = (ranged-last a v k (f .kind) j (f .field) l (f .earlier) (r, h .2 .below), tt);
-    }) (λ c. stop-here (Digits k j a v n) [] h)
-  where
-    f : InField k j a
-    f = h .0
-
-finish-means : (s : State) → Held s → Means s [] (finish s)
-unfolding finish
-finish-means (Letters t n) h = stop-here (Letters t n) [] h
-finish-means (Field k j a n) h = stop-here (Field k j a n) [] h
-finish-means (Digits k j a v n) h =
-    cases (leb (low k j) v) (λ c. Means (Digits k j a v n) [] (cond c (cond (ltb (j + 1) (fieldCount k)) (Stop 0) (last k (firstField j a v) (secondField j v) n)) (Stop 0)))
-    (λ c. cases (ltb (j + 1) (fieldCount k)) (λ d. Means (Digits k j a v n) [] (cond d (Stop 0) (last k (firstField j a v) (secondField j v) n)))
-    (λ d. stop-here (Digits k j a v n) [] h)
-    (λ d. last-means k j a v n h (leb-true (low k j) v c) (ltb-false (j + 1) (fieldCount k) d)))
-    (λ c. stop-here (Digits k j a v n) [] h)
-
-pub scan-means : (w : List ℕ) (s : State) → Held s → Means s w (scan w s)
-unfolding scan
-scan-means [] s h = finish-means s h
-scan-means (b ∷ w) s h = go-means s b w h (scan-means w) (step s b) (step-after s b h)

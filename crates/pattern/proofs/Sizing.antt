@@ -2,115 +2,44 @@
 -- Assumes nothing.
 use Prim.Native.Nat.{ℕ, zero, suc, _+_, _-_, _≤_, _<_, max}
 use mathlib.Core.Path.{_≡_, refl, sym, ap, ap₂, subst, _∙_}
-use mathlib.Core.List.{List, [], _∷_, _++_, map, append-nil, append-assoc}
-use lib.ListN.{length, getD, drop, set, replicate, length-append, length-drop, length-set, List·getD-append}
-use lib.Seq.{getD-append-add}
+use mathlib.Core.List.{List, [], _∷_, _++_, map, append-nil}
+use lib.ListN.{length, getD, drop, set, replicate, length-drop, length-set, List·getD-append}
 use native.Mathlib.Omega.{arith}
-use Rattle.pattern.specs.Pattern.{Symbol, Ev, Fr, Or, And, Row, Then, Less, Max, Ranged, rank, Pattern, Node, Patterns, Nil, Cons, count, WellFormed, AllFormed, nodes, nodesOf, depth, deepest, preorder, preorders, sizes, sizesOf, depths, depthsOf}
+use Rattle.pattern.specs.Pattern.{Symbol, Ev, Fr, Or, And, Row, Then, Less, Max, rank, Pattern, Patterns, Nil, Cons, count, nodes, nodesOf, depth, deepest, preorder, sizes, sizesOf}
 use Rattle.pattern.specs.Automaton.{arity, Encodes, Measured}
-use Rattle.pattern.specs.Rows.{kindOf, firstOf, padded}
+use Rattle.pattern.specs.Rows.{kindOf, firstOf}
+use Rattle.pattern.specs.Reading.{firsts, build}
 use Rattle.pattern.proofs.Scanning.{Counts, AllRanged}
-use Rattle.pattern.proofs.Trees.{firsts, others, build, Built, built, build-preorder, formed-counts, ranged-preorder}
-
-mutual
-  pub length-sizes : (p : Pattern) → length (sizes p) ≡ nodes p
-  length-sizes (Node h ps) = ap suc (length-sizes-of ps)
-
-  pub length-sizes-of : (ps : Patterns) → length (sizesOf ps) ≡ nodesOf ps
-  length-sizes-of Nil = refl
-  length-sizes-of (Cons p ps) = omega (arith, length-append (sizes p) (sizesOf ps), length-sizes p, length-sizes-of ps)
-
-mutual
-  pub length-depths : (p : Pattern) → length (depths p) ≡ nodes p
-  length-depths (Node h ps) = ap suc (length-depths-of ps)
-
-  pub length-depths-of : (ps : Patterns) → length (depthsOf ps) ≡ nodesOf ps
-  length-depths-of Nil = refl
-  length-depths-of (Cons p ps) = omega (arith, length-append (depths p) (depthsOf ps), length-depths p, length-depths-of ps)
-
-mutual
-  pub length-preorder : (p : Pattern) → length (preorder p) ≡ nodes p
-  length-preorder (Node h ps) = ap suc (length-preorders ps)
-
-  pub length-preorders : (ps : Patterns) → length (preorders ps) ≡ nodesOf ps
-  length-preorders Nil = refl
-  length-preorders (Cons p ps) = omega (arith, length-append (preorder p) (preorders ps), length-preorder p, length-preorders ps)
-
--- ── The next of a forest's trees ──
-
-record Next (n : ℕ) (f : Patterns) : Type 0 where
-  tree : Pattern
-  size : getD (sizesOf f) (nodesOf (firsts n f)) 0 ≡ nodes tree
-  deep : getD (depthsOf f) (nodesOf (firsts n f)) 0 ≡ depth tree
-  sum : nodesOf (firsts (suc n) f) ≡ nodesOf (firsts n f) + nodes tree
-  deepest : deepest (firsts (suc n) f) ≡ max (deepest (firsts n f)) (depth tree)
-  short : nodesOf (firsts (suc n) f) ≤ nodesOf f
-  some : 1 ≤ nodes tree
-
-first-size : (p : Pattern) (l : List ℕ) → getD (sizes p ++ l) 0 0 ≡ nodes p
-first-size (Node h ps) l = refl
-
-first-depth : (p : Pattern) (l : List ℕ) → getD (depths p ++ l) 0 0 ≡ depth p
-first-depth (Node h ps) l = refl
-
-some-nodes : (p : Pattern) → 1 ≤ nodes p
-some-nodes (Node h ps) = omega arith
-
-next : (n : ℕ) (f : Patterns) → n < count f → Next n f
-next n Nil h = absurd (omega arith)
-next zero (Cons p ps) h = record {
-  tree = p;
-  size = first-size p (sizesOf ps);
-  deep = first-depth p (depthsOf ps);
-  sum = omega arith;
-  deepest = omega arith;
-  short = omega arith;
-  some = some-nodes p;
-}
-next (suc n) (Cons p ps) h =
-    let r = next n ps (omega arith) in
-    record {
-      tree = r .tree;
-      size = ap (λ (m : ℕ). getD (sizes p ++ sizesOf ps) (m + nodesOf (firsts n ps)) 0) (sym (length-sizes p)) ∙ (getD-append-add (sizes p) (sizesOf ps) (nodesOf (firsts n ps)) 0 ∙ r .size);
-      deep = ap (λ (m : ℕ). getD (depths p ++ depthsOf ps) (m + nodesOf (firsts n ps)) 0) (sym (length-depths p)) ∙ (getD-append-add (depths p) (depthsOf ps) (nodesOf (firsts n ps)) 0 ∙ r .deep);
-      sum = omega (arith, r .sum);
-      deepest = omega (arith, r .deepest);
-      short = omega (arith, r .short);
-      some = r .some;
-    }
-
-split-sizes : (n : ℕ) (f : Patterns) → sizesOf (firsts n f) ++ sizesOf (others n f) ≡ sizesOf f
-split-sizes zero f = refl
-split-sizes (suc n) Nil = refl
-split-sizes (suc n) (Cons p ps) = append-assoc (sizes p) (sizesOf (firsts n ps)) (sizesOf (others n ps)) ∙ ap (λ (l : List ℕ). sizes p ++ l) (split-sizes n ps)
-
-split-depths : (n : ℕ) (f : Patterns) → depthsOf (firsts n f) ++ depthsOf (others n f) ≡ depthsOf f
-split-depths zero f = refl
-split-depths (suc n) Nil = refl
-split-depths (suc n) (Cons p ps) = append-assoc (depths p) (depthsOf (firsts n ps)) (depthsOf (others n ps)) ∙ ap (λ (l : List ℕ). depths p ++ l) (split-depths n ps)
+use Rattle.pattern.proofs.Forests.{depths, depthsOf, first-depth, length-sizes, length-sizes-of, length-depths-of, length-preorder, length-preorders, Next, next, split-sizes, split-depths, deepest-nodes, firsts-short}
+use Rattle.pattern.proofs.Trees.{Built, built, build-preorder, formed-counts, ranged-preorder}
 
 -- ── The symbols from a place on ──
 
+-- the symbol at place w
 pub record At (hs : List Symbol) (w : ℕ) : Type 0 where
   pub head : Symbol
   pub split : drop w hs ≡ head ∷ drop (suc w) hs
   pub column : (f : Symbol → ℕ) (l : List ℕ) → getD (map f hs ++ l) w 0 ≡ f head
 
+-- there is one
 pub at : (hs : List Symbol) (w : ℕ) → w < length hs → At hs w
 at [] w h = absurd (omega arith)
 at (g ∷ hs) zero h = record { head = g; split = refl; column = λ f l. refl }
 at (g ∷ hs) (suc w) h = let r = at hs w (omega arith) in record { head = r .head; split = r .split; column = r .column }
 
+-- the symbols from v on are those of some trees
 pub record Suffix (hs : List Symbol) (v : ℕ) : Type 0 where
   pub trees : ℕ
   pub counts : Counts trees (drop v hs)
   pub ranged : AllRanged (drop v hs)
 
+-- so are those of every place
 suffix : (hs : List Symbol) (n v : ℕ) → v ≤ length hs → Counts n hs → AllRanged hs → Suffix hs v
 suffix hs n zero h c r = record { trees = n; counts = c; ranged = r }
 suffix [] n (suc v) h c r = absurd (omega arith)
 suffix (g ∷ hs) n (suc v) h c r = let s = suffix hs (n + rank g - 1) v (omega arith) (c .1) (r .1) in record { trees = s .trees; counts = s .counts; ranged = s .ranged }
 
+-- the number of operands, read off the columns
 arity-rank : (h : Symbol) → arity (kindOf h) (firstOf h) ≡ rank h
 arity-rank (Ev a b) = refl
 arity-rank (Fr a b) = refl
@@ -121,39 +50,30 @@ arity-rank (Then a) = refl
 arity-rank Less = refl
 arity-rank (Max a) = refl
 
+-- zeros from a place on
 drop-replicate : (v n : ℕ) → drop {A = ℕ} v (replicate n 0) ≡ replicate (n - v) 0
 drop-replicate zero n = let z : n ≡ n - 0 = omega arith in ap (λ (m : ℕ). replicate m 0) z
 drop-replicate (suc v) zero = ap (λ (m : ℕ). replicate m 0) (let z : 0 ≡ 0 - suc v = omega arith in z)
 drop-replicate (suc v) (suc n) = let z : n - v ≡ suc n - suc v = omega arith in drop-replicate v n ∙ ap (λ (m : ℕ). replicate m 0) z
 
+-- nothing is left past the end
 drop-all : (l : List Symbol) (i : ℕ) → length l ≤ i → drop i l ≡ []
 drop-all [] zero h = refl
 drop-all [] (suc i) h = refl
 drop-all (x ∷ l) zero h = absurd (omega arith)
 drop-all (x ∷ l) (suc i) h = drop-all l i (omega arith)
 
+-- a store at the place where a part begins
 drop-set : (l : List ℕ) (w x : ℕ) → w < length l → drop w (set l w x) ≡ x ∷ drop (suc w) l
 drop-set [] w x h = absurd (omega arith)
 drop-set (y ∷ l) zero x h = refl
 drop-set (y ∷ l) (suc w) x h = drop-set l w x (omega arith)
 
+-- an entry of a part
 at-drop : (l : List ℕ) (v k : ℕ) → getD l (v + k) 0 ≡ getD (drop v l) k 0
 at-drop l zero k = ap (λ (m : ℕ). getD l m 0) (omega arith)
 at-drop [] (suc v) k = refl
 at-drop (x ∷ l) (suc v) k = ap (λ (m : ℕ). getD (x ∷ l) m 0) (let z : suc v + k ≡ suc (v + k) = omega arith in z) ∙ at-drop l v k
-
-mutual
-  depth-nodes : (p : Pattern) → depth p ≤ nodes p
-  depth-nodes (Node h ps) = omega (arith, deepest-nodes ps)
-
-  deepest-nodes : (ps : Patterns) → deepest ps ≤ nodesOf ps
-  deepest-nodes Nil = omega arith
-  deepest-nodes (Cons p ps) = omega (arith, depth-nodes p, deepest-nodes ps)
-
-firsts-short : (n : ℕ) (f : Patterns) → nodesOf (firsts n f) ≤ nodesOf f
-firsts-short zero f = omega arith
-firsts-short (suc n) Nil = omega arith
-firsts-short (suc n) (Cons p ps) = omega (arith, firsts-short n ps)
 
 -- ── The invariants ──
 

@@ -2,27 +2,24 @@
 -- Assumes nothing.
 use Prim.Native.Nat.{ℕ, _≤_, _<_}
 use mathlib.Core.Path.{_≡_}
-use mathlib.Core.List.{List, map}
+use mathlib.Core.List.{List}
 use lib.ListN.{length, replicate}
-use Rattle.pattern.specs.Pattern.{Pattern, Spells, Longest, nodes, depth, preorder, sizes}
-use Rattle.pattern.specs.Rows.{kindOf, firstOf, secondOf, padded}
+use Rattle.pattern.specs.Pattern.{Pattern, Spells, Longest, nodes, depth}
+use Rattle.pattern.specs.Rows.{rowsOf}
 use Rattle.pattern.specs.declared.Table.{Table}
 use Rattle.pattern.specs.declared.Verdict.{Verdict}
 use Rattle.pattern.specs.declared.Verdict.the-variants.{Accepted, Long, Misspelt, Crowded, Deep}
 
+-- the table of a pattern
 abbrev pub table : Pattern → Table
-table p = record {
-  count = nodes p;
-  kind = padded (map kindOf (preorder p));
-  first = padded (map firstOf (preorder p));
-  second = padded (map secondOf (preorder p));
-  size = padded (sizes p);
-}
+table p = record { count = nodes p; rows = rowsOf p }
 
+-- the table of a refused text
 abbrev pub noTable : Table
-noTable = record { count = 0; kind = replicate 32 0; first = replicate 32 0; second = replicate 32 0; size = replicate 32 0 }
+noTable = record { count = 0; rows = replicate 128 0 }
 
-pub record Accepts (s : List ℕ) (t : Table) : Type 0 where
+-- no refusal
+pub record IsAccepted (s : List ℕ) (t : Table) : Type 0 where
   pub short : length s ≤ 1024
   pub pattern : Pattern
   pub spells : Spells pattern s
@@ -61,8 +58,24 @@ pub record IsDeep (s : List ℕ) (t : Table) : Type 0 where
 
 -- what each verdict, with its table, says of the text
 abbrev pub Says : List ℕ → Verdict → Table → Type 0
-Says s Accepted t = Accepts s t
+Says s Accepted t = IsAccepted s t
 Says s Long t = IsLong s t
 Says s (Misspelt n) t = IsMisspelt s n t
 Says s Crowded t = IsCrowded s t
 Says s Deep t = IsDeep s t
+
+-- the refusal's number; 0: accepted
+abbrev pub numberOf : Verdict → ℕ
+numberOf Accepted = 0
+numberOf Long = 2
+numberOf (Misspelt n) = 3
+numberOf Crowded = 4
+numberOf Deep = 5
+
+-- the refusal's place
+abbrev pub placeOf : Verdict → ℕ
+placeOf Accepted = 0
+placeOf Long = 0
+placeOf (Misspelt n) = n
+placeOf Crowded = 0
+placeOf Deep = 0

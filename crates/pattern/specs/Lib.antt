@@ -3,3 +3,4 @@ pub mod Pattern
 pub mod Rows
 pub mod Automaton
 pub mod Answer
+pub mod Reading

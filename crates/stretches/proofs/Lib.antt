@@ -8,3 +8,11 @@ pub mod Marks
 pub mod Steps
 pub mod Ordered
 pub mod Tight
+pub mod Taking
+pub mod TakingAnd
+pub mod TakingCases
+pub mod TakingCounts
+pub mod TakingFigures
+pub mod TakingLoops
+pub mod TakingOr
+pub mod TakingQueue

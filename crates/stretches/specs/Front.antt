@@ -1,5 +1,5 @@
--- The first stretch of a list from a line on. Assumes nothing.
-use Prim.Native.Nat.{ℕ}
+-- The first stretch of a list from a line on, and the stretch of a given number. Assumes nothing.
+use Prim.Native.Nat.{ℕ, zero, suc}
 use mathlib.Core.Bool.{cond}
 use mathlib.Core.List.{List, [], _∷_}
 use lib.Dec.{leb}
@@ -13,3 +13,9 @@ pub data Front : Type 0 where
 abbrev pub firstFrom : List Stretch → ℕ → Front
 firstFrom [] t = None
 firstFrom (x ∷ xs) t = cond (leb t (x .start)) (At x) (firstFrom xs t)
+
+-- number n of the list, the first being 0; none past the last
+abbrev pub nth : List Stretch → ℕ → Front
+nth [] n = None
+nth (x ∷ xs) zero = At x
+nth (x ∷ xs) (suc n) = nth xs n

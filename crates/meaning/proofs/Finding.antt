@@ -1,0 +1,90 @@
+-- Laws of the refusals and of the list of a pattern in a log: each refusal by its cause, the list where both are accepted, that 9 never comes,
+-- and the undamaged run for that list. Assumes nothing.
+use Prim.Native.Nat.{ℕ, _+_, _≤_, _<_}
+use mathlib.Core.Path.{_≡_, refl, sym, ap, ap₂, _∙_}
+use mathlib.Core.Bool.{Bool, true, false, cond}
+use mathlib.Core.List.{List, [], _++_}
+use lib.ListN.{length, length-append}
+use lib.Dec.{ltb, eqb}
+use borrow.Author.Tests.{ltb-true, ltb-false, lt-ltb, le-ltb, eqb-true}
+use native.Mathlib.Omega.{arith}
+use Rattle.stretches.specs.Run.{cut}
+use Rattle.event_log.specs.Lines.{lines, Whole}
+use Rattle.event_log.specs.Reading.{says}
+use Rattle.pattern.specs.Pattern.{Pattern}
+use Rattle.pattern.specs.Reading.{Outcome, Accepts, Refuses, outcomeOf}
+use Rattle.pattern.proofs.Outcomes.{refuses-says}
+use Rattle.meaning.specs.Meaning.{answersIn}
+use Rattle.meaning.specs.Refusals.{Refusal, refused, accepted, flood, ofPattern, refusal}
+use Rattle.meaning.specs.Finding.{answersBy, listOf}
+use Rattle.meaning.proofs.Tree.{few-answers}
+use Rattle.meaning.proofs.Run.{says-length, run-bytes}
+
+-- 9 never comes: answers never outnumber the lines
+pub no-flood : (p : Pattern) (log : List ℕ) → flood (answersIn p log) log ≡ accepted
+no-flood p log =
+    let h : length (answersIn p log) ≤ length (lines log) = omega (arith, few-answers p (says log), says-length log) in
+    ap (λ (b : Bool). cond b (refused 9 0) accepted) (le-ltb (length (lines log)) (length (answersIn p log)) h)
+
+-- 1: the log is too long
+pub long-log : (pattern log : List ℕ) → 61440 < length log → refusal pattern log ≡ refused 1 0
+unfolding refusal
+long-log pattern log h = ap (λ (b : Bool). cond b (refused 1 0) (ofPattern (outcomeOf pattern) log)) (lt-ltb 61440 (length log) h)
+
+short-log : (pattern log : List ℕ) → length log ≤ 61440 → refusal pattern log ≡ ofPattern (outcomeOf pattern) log
+unfolding refusal
+short-log pattern log h = ap (λ (b : Bool). cond b (refused 1 0) (ofPattern (outcomeOf pattern) log)) (le-ltb 61440 (length log) h)
+
+-- 2 to 5: the pattern's refusal
+pub bad-pattern : (pattern log : List ℕ) (n q : ℕ) → length log ≤ 61440 → outcomeOf pattern ≡ Refuses n q → refusal pattern log ≡ refused n q
+bad-pattern pattern log n q h e = short-log pattern log h ∙ ap (λ (o : Outcome). ofPattern o log) e
+
+-- else both are accepted
+pub good-pattern : (pattern log : List ℕ) (p : Pattern) → length log ≤ 61440 → outcomeOf pattern ≡ Accepts p → refusal pattern log ≡ accepted
+good-pattern pattern log p h e = short-log pattern log h ∙ ap (λ (o : Outcome). ofPattern o log) e ∙ no-flood p log
+
+-- the list of a refused pattern or log is empty
+pub refused-list : (pattern log : List ℕ) (r : Refusal) → refusal pattern log ≡ r → 1 ≤ r .number → listOf pattern log ≡ []
+unfolding listOf
+refused-list pattern log r e h = go (eqb (refusal pattern log .number) 0) refl
+  where
+    go : (b : Bool) → eqb (refusal pattern log .number) 0 ≡ b → cond b (answersBy (outcomeOf pattern) log) [] ≡ []
+    go true k = absurd (omega (arith, eqb-true (refusal pattern log .number) 0 k, ap (λ (x : Refusal). x .number) e))
+    go false k = refl
+
+-- the list of an accepted one is its answers
+pub accepted-list : (pattern log : List ℕ) (p : Pattern) → length log ≤ 61440 → outcomeOf pattern ≡ Accepts p → listOf pattern log ≡ answersIn p log
+unfolding listOf
+accepted-list pattern log p h e =
+    ap₂ (λ (x : Refusal) (o : Outcome). cond (eqb (x .number) 0) (answersBy o log) []) (good-pattern pattern log p h e) e
+
+-- what acceptance says
+pub record Accepted (pattern log : List ℕ) : Type 0 where
+  pub brief : length log ≤ 61440
+  pub tree : Pattern
+  pub reads : outcomeOf pattern ≡ Accepts tree
+
+pub accepted-by : (pattern log : List ℕ) → refusal pattern log ≡ accepted → Accepted pattern log
+accepted-by pattern log e = go (ltb 61440 (length log)) refl (outcomeOf pattern) refl
+  where
+    number : (r : Refusal) → refusal pattern log ≡ r → 0 ≡ r .number
+    number r k = ap (λ (x : Refusal). x .number) (sym e ∙ k)
+
+    go : (b : Bool) → ltb 61440 (length log) ≡ b → (o : Outcome) → outcomeOf pattern ≡ o → Accepted pattern log
+    go true k o j = absurd (omega (arith, number (refused 1 0) (long-log pattern log (ltb-true 61440 (length log) k))))
+    go false k (Accepts p) j = record { brief = ltb-false 61440 (length log) k; tree = p; reads = j }
+    go false k (Refuses n q) j = absurd (omega (arith, number (refused n q) (bad-pattern pattern log n q (ltb-false 61440 (length log) k) j), refuses-says pattern n q j .some))
+
+-- the undamaged run, for the list of an accepted pattern and log: the run alone is accepted, and has the part of the list that lies within it
+module _ (pattern a run b : List ℕ) (e : refusal pattern (a ++ (run ++ b)) ≡ accepted) where
+  pub run-accepted : refusal pattern run ≡ accepted
+  run-accepted =
+      let k = accepted-by pattern (a ++ (run ++ b)) e in
+      good-pattern pattern run (k .tree) (omega (arith, k .brief, length-append a (run ++ b), length-append run b)) (k .reads)
+
+  pub run-list : Whole a → Whole run → cut (length (lines a)) (length (lines run)) (listOf pattern (a ++ (run ++ b))) ≡ listOf pattern run
+  run-list wa wr =
+      let k = accepted-by pattern (a ++ (run ++ b)) e in
+      let j = accepted-by pattern run run-accepted in
+      ap (cut (length (lines a)) (length (lines run))) (accepted-list pattern (a ++ (run ++ b)) (k .tree) (k .brief) (k .reads))
+      ∙ (run-bytes (k .tree) a run b wa wr ∙ sym (accepted-list pattern run (k .tree) (j .brief) (k .reads)))

@@ -1,0 +1,74 @@
+// The nodes of a whole text: the sizes of their subtrees, the depth, and the table.
+ghost use mathlib.Core.Path.{_≡_};
+ghost use mathlib.Core.List.{_++_};
+ghost use Prim.Native.Nat.{_≤_, max};
+ghost use lib.ListN.{length};
+ghost use lib.Seq.{paste};
+ghost use Rattle.pattern.specs.Automaton.{Encodes, Measured};
+use super::Sizes;
+use super::Table;
+use super::alphabet::arity;
+
+// The larger of two numbers.
+fn larger(a: usize, b: usize) -> usize
+    ensures { λ r. ⌜ r ≡ max a b ⌝ }
+{
+    if a < b { b } else { a }
+}
+
+// The sizes of the subtrees and the depth, from the last node to the first: a node's operands have theirs by then.
+pub(crate) fn measure(kind: [usize; 32], first: [usize; 32], count: usize) -> Sizes
+    requires { ⌜ Encodes kind first count ⌝ }
+    ensures { λ r. ⌜ ((e : Encodes kind first count) → Measured (e .tree) r) ⌝ }
+{
+    let mut size = [0usize; 32];
+    let mut depth = [0usize; 32];
+    let mut v = count;
+    while 0 < v {
+        let w = v - 1;
+        let mut c = v;
+        let mut d = 0;
+        let mut m = arity(kind[w], first[w]);
+        while 0 < m {
+            d = larger(d, depth[c]);
+            c += size[c];
+            m -= 1;
+        }
+        size[w] = c - w;
+        depth[w] = d + 1;
+        v = w;
+    }
+    let root = depth[0];
+    Sizes { size, depth: root }
+}
+
+// The array with the column from the place on.
+fn place(rows: &mut [usize; 128], at: usize, column: [usize; 32])
+    requires { ⌜ (length (now rows) ≡ 128) × ((at ≤ 96) × (length column ≡ 32)) ⌝ }
+    ensures { λ r. ⌜ (now (rows .exit) ≡ paste (now (rows .entry)) at column 32) × (length (now (rows .exit)) ≡ 128) ⌝ }
+{
+    let mut i = 0;
+    while i < 32 {
+        rows[at + i] = column[i];
+        i += 1;
+    }
+}
+
+// The table of four columns.
+pub(crate) fn tabled(
+    count: usize,
+    kind: [usize; 32],
+    size: [usize; 32],
+    first: [usize; 32],
+    second: [usize; 32],
+) -> Table
+    requires { ⌜ (length kind ≡ 32) × ((length size ≡ 32) × ((length first ≡ 32) × (length second ≡ 32))) ⌝ }
+    ensures { λ r. ⌜ (r .count ≡ count) × (r .rows ≡ kind ++ (size ++ (first ++ second))) ⌝ }
+{
+    let mut rows = [0usize; 128];
+    place(&mut rows, 0, kind);
+    place(&mut rows, 32, size);
+    place(&mut rows, 64, first);
+    place(&mut rows, 96, second);
+    Table { count, rows }
+}
