@@ -2,3 +2,4 @@ pub mod Tree
 pub mod Run
 pub mod Finding
 pub mod Filling
+pub mod Bounds

@@ -2,11 +2,12 @@
 -- Assumes nothing.
 use Prim.Native.Nat.{ℕ}
 use mathlib.Core.Bool.{cond}
-use mathlib.Core.List.{List}
+use mathlib.Core.List.{List, []}
 use lib.ListN.{length}
 use lib.Dec.{ltb}
-use Rattle.stretches.specs.Stretch.{Stretch}
+use Rattle.stretches.specs.Stretch.{Stretch, answers}
 use Rattle.event_log.specs.Lines.{lines}
+use Rattle.pattern.specs.Pattern.{Pattern}
 use Rattle.pattern.specs.Reading.{Outcome, Accepts, Refuses, outcomeOf}
 use Rattle.meaning.specs.Meaning.{answersIn}
 

@@ -1,0 +1,72 @@
+-- How large the numbers of a filling call's result can be. Assumes nothing.
+use Prim.Native.Nat.{ℕ, _≤_}
+use mathlib.Core.Path.{_≡_, refl, ap}
+use mathlib.Core.Bool.{Bool, true, false}
+use mathlib.Core.List.{List}
+use lib.ListN.{length, drop, length-take, length-drop}
+use lib.Dec.{ltb}
+use borrow.Author.Tests.{ltb-true, ltb-false}
+use native.Mathlib.Omega.{arith}
+use Rattle.event_log.proofs.LinesLaws.{cut-few}
+use Rattle.event_log.specs.Reading.{says}
+use Rattle.pattern.specs.Answer.{noTable, Says, numberOf, placeOf}
+use Rattle.pattern.specs.Reading.{Outcome, Accepts, Refuses, outcomeOf, verdictOf}
+use Rattle.pattern.specs.declared.Verdict.{Verdict}
+use Rattle.pattern.specs.declared.Verdict.the-variants.{Accepted, Long, Misspelt, Crowded, Deep}
+use Rattle.pattern.specs.declared.Table.{Table}
+use Rattle.pattern.proofs.Outcomes.{refuses-says}
+use Rattle.meaning.specs.Meaning.{answersIn}
+use Rattle.meaning.specs.Refusals.{Refusal, refused, refusal}
+use Rattle.meaning.specs.Filling.{pairsIn, written}
+use Rattle.meaning.specs.Finding.{listOf}
+use Rattle.meaning.proofs.Tree.{few-answers}
+use Rattle.meaning.proofs.Run.{says-length}
+use Rattle.meaning.proofs.Finding.{long-log, bad-pattern, good-pattern, refused-list, accepted-list}
+
+-- a refusal's number and place
+pub record Small (r : Refusal) : Type 0 where
+  pub number : r .number ≤ 9
+  pub place : r .place ≤ 1024
+
+says-small : (s : List ℕ) (v : Verdict) (t : Table) → Says s v t → (numberOf v ≤ 5) × (placeOf v ≤ 1024)
+says-small s Accepted t h = (omega arith, omega arith)
+says-small s Long t h = (omega arith, omega arith)
+says-small s (Misspelt n) t h = (omega arith, omega (arith, h .short, h .place .within))
+says-small s Crowded t h = (omega arith, omega arith)
+says-small s Deep t h = (omega arith, omega arith)
+
+-- the refusal by its causes, and the list's length
+module _ (pattern log : List ℕ) where
+  pub record Sized : Type 0 where
+    pub refusal : Small (refusal pattern log)
+    pub list : length (listOf pattern log) ≤ 61440
+
+  sized-as : (r : Refusal) → refusal pattern log ≡ r → Small r → 1 ≤ r .number → Sized
+  sized-as r e h n =
+      let a : refusal pattern log .number ≡ r .number = ap (λ (x : Refusal). x .number) e in
+      let b : refusal pattern log .place ≡ r .place = ap (λ (x : Refusal). x .place) e in
+      record { refusal = record { number = omega (arith, h .number); place = omega (arith, h .place) }; list = omega (arith, ap length (refused-list pattern log r e n)) }
+
+  pub sized : Sized
+  sized = go (ltb 61440 (length log)) refl (outcomeOf pattern) refl
+    where
+      go : (b : Bool) → ltb 61440 (length log) ≡ b → (o : Outcome) → outcomeOf pattern ≡ o → Sized
+      go true k o j = sized-as (refused 1 0) (long-log pattern log (ltb-true 61440 (length log) k)) (record { number = omega arith; place = omega arith }) (omega arith)
+      go false k (Refuses n q) j =
+          let h = refuses-says pattern n q j in
+          let z = says-small pattern (verdictOf (Refuses n q)) noTable (h .says) in
+          sized-as (refused n q) (bad-pattern pattern log n q (ltb-false 61440 (length log) k) j) (record { number = omega (arith, h .number, z .0); place = omega (arith, h .place, z .1) }) (omega (arith, h .some))
+      go false k (Accepts p) j =
+          let h = ltb-false 61440 (length log) k in
+          let e = good-pattern pattern log p h j in
+          let a : refusal pattern log .number ≡ 0 = ap (λ (x : Refusal). x .number) e in
+          let b : refusal pattern log .place ≡ 0 = ap (λ (x : Refusal). x .place) e in
+          let l : length (listOf pattern log) ≡ length (answersIn p log) = ap length (accepted-list pattern log p h j) in
+          record {
+            refusal = record { number = omega arith; place = omega arith };
+            list = omega (arith, few-answers p (says log), says-length log, cut-few 10 log);
+          }
+
+  -- the number of stretches written
+  pub few-written : (f : ℕ) (cells : List ℕ) → length (written (listOf pattern log) f cells) ≤ 61440
+  few-written f cells = omega (arith, length-take (pairsIn cells) (drop f (listOf pattern log)), length-drop f (listOf pattern log), sized .list)
