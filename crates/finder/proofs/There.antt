@@ -1,0 +1,102 @@
+-- Nothing is void: for every pattern and log the calls' promises can be met, and what is then shown is the list, taken or filled.
+-- Assumes nothing.
+use Prim.Native.Nat.{ℕ, zero, suc, _+_, _*_, _≤_}
+use mathlib.Core.Path.{_≡_, refl, sym, ap, _∙_}
+use mathlib.Core.Bool.{Bool, true, false}
+use mathlib.Core.List.{List, [], _∷_}
+use lib.ListN.{length, drop, replicate}
+use lib.Dec.{eqb}
+use borrow.Author.Tests.{eqb-true, eqb-false}
+use native.Mathlib.Omega.{arith}
+use Rattle.stretches.specs.Stretch.{Stretch}
+use Rattle.stretches.specs.Front as front
+use Rattle.pattern.specs.Rows.{rowsOf}
+use Rattle.meaning.specs.Refusals.{refusal}
+use Rattle.meaning.specs.Filling.{filled, moreAfter}
+use Rattle.meaning.specs.Finding.{listOf, filling}
+use Rattle.meaning.proofs.Finding.{accepted-number}
+use Rattle.meaning.proofs.Filling.{filled-front, done-all, room-done}
+use Rattle.seek.specs.declared.Front.{Front}
+use Rattle.seek.specs.Source.{source}
+use Rattle.seek.specs.Steps as seek
+use Rattle.seek.proofs.Walk.{next-there}
+use Rattle.finder.specs.declared.Finder.{Finder}
+use Rattle.finder.specs.declared.Answer.the-variants as answer
+use Rattle.finder.specs.declared.Stepped.{Stepped}
+use Rattle.finder.specs.declared.Readied.{Readied}
+use Rattle.finder.specs.Promises.{ReadGives, answerOf, Led, closed, seeking, StepGives}
+use Rattle.finder.specs.Whole.{Steps, last, more, Taken, Written}
+use Rattle.finder.proofs.Calls.{open-gives, step-closed, step-none, step-some}
+
+-- ── Taking one by one ──
+
+-- a step that keeps its promise
+step-there : (pattern log : List ℕ) (n : ℕ) (f : Finder) → Led pattern log n f → (r : Stepped) × StepGives f log r
+step-there pattern log n f (closed l e) = (record { answer = answer.None; finder = f }, step-closed log f e)
+step-there pattern log n f (seeking p l e g) = let k = next-there g in go (k .0) (k .1) (eqb (k .0 .status) 1) refl
+  where
+    go : (r : Front) → seek.NextOf (f .rows) (source log [] []) (f .state) (f .from) r (f .state) → (b : Bool) → eqb (r .status) 1 ≡ b → (r : Stepped) × StepGives f log r
+    go r next true i =
+        (record { answer = answer.Stretch (r .start) (r .end); finder = record { live = f .live; rows = f .rows; state = f .state; from = r .start + 1 } }, step-some log f e r (f .state) next (eqb-true (r .status) 1 i))
+    go r next false i = (record { answer = answer.None; finder = record { live = f .live; rows = f .rows; state = f .state; from = f .from } }, step-none log f e r (f .state) next (eqb-false (r .status) 1 i))
+
+nth-head : (l : List Stretch) (n : ℕ) (x : Stretch) (xs : List Stretch) → drop n l ≡ x ∷ xs → (front.nth l n ≡ front.At x) × (drop (suc n) l ≡ xs)
+nth-head [] zero x xs e = let z : _≡_ {A = ℕ} 0 1 = cc in absurd (omega arith)
+nth-head [] (suc n) x xs e = let z : _≡_ {A = ℕ} 0 1 = cc in absurd (omega arith)
+nth-head (y ∷ l) zero x xs e = (cc, cc)
+nth-head (y ∷ l) (suc n) x xs e = nth-head l n x xs e
+
+nth-past : (l : List Stretch) (n : ℕ) → drop n l ≡ [] → front.nth l n ≡ front.None
+nth-past [] n e = refl
+nth-past (y ∷ l) zero e = let z : _≡_ {A = ℕ} 0 1 = cc in absurd (omega arith)
+nth-past (y ∷ l) (suc n) e = nth-past l n e
+
+steps-there : (pattern log : List ℕ) (rest : List Stretch) (n : ℕ) (f : Finder) → drop n (listOf pattern log) ≡ rest → Led pattern log n f → Steps log f rest
+unfolding StepGives
+steps-there pattern log [] n f e led =
+    let k = step-there pattern log n f led in
+    last (k .0) (k .1) (k .1 pattern n led .answer ∙ ap answerOf (nth-past (listOf pattern log) n e))
+steps-there pattern log (x ∷ xs) n f e led =
+    let k = step-there pattern log n f led in
+    let h = nth-head (listOf pattern log) n x xs e in
+    let z : n + 1 ≡ suc n = omega arith in
+    more (k .0) (x .start) (x .end) (k .1) (k .1 pattern n led .answer ∙ ap answerOf (h .0))
+    (steps-there pattern log xs (n + 1) (k .0 .finder) (ap (λ (m : ℕ). drop m (listOf pattern log)) z ∙ h .1) (k .1 pattern n led .led))
+
+-- what reading both gives
+read-there : (pattern log : List ℕ) → (r : Readied) × ReadGives pattern log r
+read-there pattern log = go (eqb (refusal pattern log .number) 0) refl
+  where
+    go : (b : Bool) → eqb (refusal pattern log .number) 0 ≡ b → (r : Readied) × ReadGives pattern log r
+    go false e = (
+      record { number = refusal pattern log .number; place = refusal pattern log .place; rows = replicate 128 0 },
+      record { number = refl; place = refl; read = λ z. absurd (eqb-false (refusal pattern log .number) 0 e z) },
+    )
+    go true e =
+        let a = accepted-number pattern log (eqb-true (refusal pattern log .number) 0 e) in (
+          record { number = refusal pattern log .number; place = refusal pattern log .place; rows = rowsOf (a .tree) },
+          record { number = refl; place = refl; read = λ z. record { brief = a .brief; tree = a .tree; reads = a .reads; table = refl } },
+        )
+
+-- for every pattern and log, an opening and steps that give the list, and then none
+pub taken-there : (pattern log : List ℕ) → Taken pattern log (listOf pattern log)
+taken-there pattern log =
+    let r = read-there pattern log in
+    let g = open-gives pattern log (r .0) (r .1) in
+    record { opened = record { number = r .0 .number; place = r .0 .place; finder = record { live = eqb (r .0 .number) 0; rows = r .0 .rows; state = replicate 192 0; from = 0 } }; opens = g; steps = steps-there pattern log (listOf pattern log) 0 _ refl (g .led) }
+
+-- ── Filling ──
+
+-- with twice as many cells as answers, a filling call says "done", and has written the list
+pub written-there : (pattern log cells : List ℕ) → 2 * length (listOf pattern log) ≤ length cells → Written pattern log (listOf pattern log)
+written-there pattern log cells h =
+    let l : List Stretch = listOf pattern log in
+    let d : moreAfter l 0 cells ≡ false = room-done l cells h in
+    record {
+      cells = cells;
+      after = filled l 0 cells;
+      result = filling pattern log 0 cells;
+      fills = record { result = refl; memory = refl };
+      done = d;
+      shows = sym (filled-front l 0 cells ∙ done-all l cells d);
+    }

@@ -1,0 +1,18 @@
+use borrow.Author.Tests.{ne-eqb, eq-eqb, lt-ltb, le-ltb, le-leb, lt-leb}
+use borrow.Author.Needs.{needs}
+use Rattle.seek.proofs.fronts.after.Statement.{statement}
+use Rattle.seek.proofs.fronts.after.Tie as tie
+use Rattle.seek.proofs.fronts.after.Reads as reads
+use Rattle.seek.proofs.fronts.after.Lts as lts
+
+add-result : tie.Need-add-result
+add-result c = search needs
+
+returns : tie.Need-returns
+returns c = simp (lt-ltb _ _ (c .if1 .taken))
+
+returns-2 : tie.Need-returns-2
+returns-2 c = simp (le-ltb _ _ (c .if1 .left))
+
+pub after-spec : {M : Type 1} → statement M
+after-spec = tie.close (tie.spec add-result returns returns-2)

@@ -1,0 +1,29 @@
+-- `seek::lists::start_of` meets its contract. The list before ends at the place before.
+-- Assumes nothing.
+use mathlib.Core.Path.{_∙_, sym}
+use Rattle.seek.proofs.ListLaws.{start-after}
+use borrow.Author.Needs.{needs}
+use Rattle.seek.proofs.lists.start_of.Statement.{statement}
+use Rattle.seek.proofs.lists.start_of.Tie as tie
+
+returns : tie.Need-returns
+returns c = search needs
+
+sub-wide : tie.Need-sub-wide
+sub-wide c = search needs
+
+mul-wide : tie.Need-mul-wide
+mul-wide c = search needs
+
+shared-slice-read-wide : tie.Need-shared-slice-read-wide
+shared-slice-read-wide c = search needs
+
+wide-requires : tie.Need-wide-requires
+wide-requires c κs = search needs
+
+returns-2 : tie.Need-returns-2
+returns-2 c = c .wide .ensures .0 ∙ sym (start-after (c .before .before .before .before .args .ends .now) (c .before .before .before .before .args .k) (c .before .before .if1 .left))
+
+pub start-of-spec : {M : Type 1} → statement M
+start-of-spec =
+    tie.close (tie.spec returns sub-wide mul-wide shared-slice-read-wide wide-requires returns-2)
