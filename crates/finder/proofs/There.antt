@@ -19,7 +19,8 @@ use Rattle.meaning.proofs.Filling.{filled-front, done-all, room-done}
 use Rattle.seek.specs.declared.Front.{Front}
 use Rattle.seek.specs.Source.{source}
 use Rattle.seek.specs.Steps as seek
-use Rattle.seek.proofs.Walk.{next-there}
+use Rattle.seek.specs.Seek.{first}
+use Rattle.seek.proofs.Whole.{next-there}
 use Rattle.finder.specs.declared.Finder.{Finder}
 use Rattle.finder.specs.declared.Answer.the-variants as answer
 use Rattle.finder.specs.declared.Stepped.{Stepped}
@@ -33,12 +34,17 @@ use Rattle.finder.proofs.Calls.{open-gives, step-closed, step-none, ste
 -- a step that keeps its promise
 step-there : (pattern log : List ℕ) (n : ℕ) (f : Finder) → Led pattern log n f → (r : Stepped) × StepGives f log r
 step-there pattern log n f (closed l e) = (record { answer = answer.None; finder = f }, step-closed log f e)
-step-there pattern log n f (seeking p l e g) = let k = next-there g in go (k .0) (k .1) (eqb (k .0 .status) 1) refl
+step-there pattern log n f (seeking p l e g) = go (first (source log [] []) p (f .from)) (next-there p (g .ready .good) (g .fits))
   where
-    go : (r : Front) → seek.NextOf (f .rows) (source log [] []) (f .state) (f .from) r (f .state) → (b : Bool) → eqb (r .status) 1 ≡ b → (r : Stepped) × StepGives f log r
-    go r next true i =
-        (record { answer = answer.Stretch (r .start) (r .end); finder = record { live = f .live; rows = f .rows; state = f .state; from = r .start + 1 } }, step-some log f e r (f .state) next (eqb-true (r .status) 1 i))
-    go r next false i = (record { answer = answer.None; finder = record { live = f .live; rows = f .rows; state = f .state; from = f .from } }, step-none log f e r (f .state) next (eqb-false (r .status) 1 i))
+    on : ℕ → Finder
+    on t = record { live = f .live; rows = f .rows; state = replicate 192 0; from = t }
+
+    go : (r : Front) → seek.NextOf (f .rows) (source log [] []) (f .state) (f .from) r (replicate 192 0) → (r : Stepped) × StepGives f log r
+    go r next = by (eqb (r .status) 1) refl
+      where
+        by : (b : Bool) → eqb (r .status) 1 ≡ b → (r : Stepped) × StepGives f log r
+        by true i = (record { answer = answer.Stretch (r .start) (r .end); finder = on (r .start + 1) }, step-some log f e r (replicate 192 0) next (eqb-true (r .status) 1 i))
+        by false i = (record { answer = answer.None; finder = on (f .from) }, step-none log f e r (replicate 192 0) next (eqb-false (r .status) 1 i))
 
 nth-head : (l : List Stretch) (n : ℕ) (x : Stretch) (xs : List Stretch) → drop n l ≡ x ∷ xs → (front.nth l n ≡ front.At x) × (drop (suc n) l ≡ xs)
 nth-head [] zero x xs e = let z : _≡_ {A = ℕ} 0 1 = cc in absurd (omega arith)

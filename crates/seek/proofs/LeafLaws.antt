@@ -1,12 +1,11 @@
 -- A leaf over either source: a matching line is a front of the leaf's list, a cursor stays true, and each return of a leaf is one law.
 -- Assumes nothing.
 use mathlib.Core.Path.{_≡_, refl, sym, ap, subst, subst₂, _∙_}
-use mathlib.Core.Logic.{_⊎_, _≢_, inl, inr, ⊎-elim}
+use mathlib.Core.Logic.{_⊎_, _≢_, inl, ⊎-elim}
 use mathlib.Core.Bool.{true, false, cond}
 use mathlib.Core.List.{List, [], _∷_, map}
-use Prim.Native.Nat.{ℕ, zero, suc, _+_, _-_, _≤_, _<_}
+use Prim.Native.Nat.{ℕ, zero, suc, _+_, _≤_, _<_}
 use native.Mathlib.Omega.{arith}
-use lib.Dec.{eqb}
 use lib.ListN.{length, getD, set, length-set}
 use lib.Seq.{getD-set-same, getD-set-other}
 use borrow.Author.Tests.{eq-eqb, ne-eqb}
@@ -17,13 +16,13 @@ use Rattle.event_log.specs.Lines.{Cursor}
 use Rattle.event_log.specs.Reading.{says}
 use Rattle.event_log.proofs.LinesLaws.{cursor-start}
 use Rattle.pattern.specs.Pattern.{Symbol}
-use Rattle.pattern.specs.Rows.{kindAt, firstAt, secondAt, firstOf, Entry}
+use Rattle.pattern.specs.Rows.{kindAt, firstAt, secondAt, firstOf}
 use Rattle.meaning.specs.Meaning.{matches}
 use Rattle.meaning.specs.Lent.{listsFrom, listsOf}
 use Rattle.seek.specs.declared.Front.{Front}
 use Rattle.seek.specs.declared.lines.LineFound.{LineFound}
 use Rattle.seek.specs.Moves.{atF, noneF}
-use Rattle.seek.specs.Source.{Source, source, leafOf, Good}
+use Rattle.seek.specs.Source.{Source, source, leafOf}
 use Rattle.seek.specs.Seek.{front, Cursors}
 use Rattle.seek.specs.Lines.{NextLine}
 use Rattle.seek.specs.Leaves.{part, startOf, listOf, Hinted, ListFound, LineSought, LeafFound}

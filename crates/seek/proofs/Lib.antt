@@ -1,6 +1,7 @@
 -- What the proofs of several functions use; `pub`: what other crates cite.
 pub mod Shape
 mod Looks
+mod Best
 pub mod Nodes
 mod State
 mod Turns
@@ -10,4 +11,5 @@ mod ListLaws
 mod LeafLaws
 pub mod Sources
 pub mod Walk
+mod Written
 pub mod Whole

@@ -10,7 +10,7 @@ use lib.ListN.{length, getD, set, take, drop, length-set}
 use lib.Seq.{drop-cons, getD-set-other}
 use borrow.Author.Tests.{le-leb, lt-leb}
 use Rattle.stretches.specs.Stretch.{Stretch, st, In, Rising}
-use Rattle.stretches.specs.Front.{None, At, firstFrom}
+use Rattle.stretches.specs.Front.{At, firstFrom}
 use Rattle.meaning.specs.Lent.{pairs}
 use Rattle.seek.specs.declared.Front.{Front}
 use Rattle.seek.specs.Moves.{atF, noneF}

@@ -1,25 +1,24 @@
 -- What a look at an operator's operands finds, against the operators' candidates and answers. Assumes nothing.
 use mathlib.Core.Path.{_≡_, refl, sym, ap, ap₂, subst, _∙_}
-use mathlib.Core.Logic.{_⊎_, inl, inr}
-use mathlib.Core.Bool.{Bool, true, false, cond}
+use mathlib.Core.Bool.{Bool, true, false}
 use mathlib.Core.List.{List, [], _∷_}
-use Prim.Native.Nat.{ℕ, zero, suc, _+_, _-_, _≤_, _<_, min, max}
+use Prim.Native.Nat.{ℕ, suc, _+_, _-_, _≤_, _<_, min, max}
 use native.Mathlib.Omega.{arith}
 use lib.Dec.{leb, ltb, eqb}
-use borrow.Author.Tests.{ltb-true, ltb-false, leb-true, leb-false, eqb-true, eqb-false, lt-ltb, le-ltb, le-leb, lt-leb, eq-eqb, ne-eqb}
-use Rattle.stretches.specs.Stretch.{Stretch, st, In, Rising, low, high, keep, holdsNone, containsNone, atMost, lengthOf, Op, Or, And, Row, Then, Less, Max, answers}
-use Rattle.stretches.proofs.Lists.{cases, le-or-lt, st-path, rising-keep, in-keep}
+use borrow.Author.Tests.{ltb-true, ltb-false, leb-true, leb-false, eqb-true, eqb-false, lt-ltb, le-ltb, le-leb, lt-leb, eq-eqb}
+use Rattle.stretches.specs.Stretch.{Stretch, st, In, Rising, low, high, keep, holdsNone, atMost, lengthOf, Op, And, Row, Then, answers}
+use Rattle.stretches.proofs.Lists.{cases}
 use Rattle.stretches.proofs.Answers.{AllRising, AllSound, Sound, high-first}
 use Rattle.stretches.specs.Front as fronts
 use Rattle.stretches.specs.Front.{None, At, firstFrom}
-use Rattle.stretches.proofs.Fronts.{FirstIs, first-good, front-good, first-none, FrontsAt, better, bestFront, wins, wins-true, wins-false, or-front}
+use Rattle.stretches.proofs.Fronts.{FirstIs, front-good, FrontsAt}
 use Rattle.stretches.proofs.Steps.{keep-none, keep-taken, keep-left, clear, holds-none-front}
-use Rattle.stretches.proofs.Ordered.{ChainAt, RowAt, row-taken, row-left, first-self, chain-picks}
+use Rattle.stretches.proofs.Ordered.{ChainAt, RowAt, row-taken, row-left, first-self}
 use Rattle.stretches.proofs.Cut.{AllBelow, Below}
 use Rattle.stretches.proofs.Tight.{Gone, Tight, gone-front, and-tight, and-gone, then-tight, then-gone, row-gone}
 use Rattle.seek.specs.declared.Front.{Front}
 use Rattle.seek.specs.declared.fronts.Look.{Look}
-use Rattle.seek.specs.Moves.{pickF, pickN, pickL, atF, noneF, noLook, lookOf, hullOf, linkOf, afterOf, toOf, stepOf, clearOf, shortOf, betterOf, goF}
+use Rattle.seek.specs.Moves.{pickN, pickL, atF, noLook, lookOf, hullOf, linkOf, afterOf, toOf, stepOf, clearOf, shortOf, goF}
 use Rattle.seek.specs.Seek.{front, pass, passAll, lessLook, maxLook}
 
 none-at : (x : Stretch) → None ≡ At x → ⊥
@@ -309,70 +308,3 @@ short-mark k s e h =
 
 pub max-look : (k : ℕ) (a : List Stretch) (ls : List (List Stretch)) → Rising a → Sound a → Below 65536 a → (t : ℕ) → SkipLook (keep (atMost lengthOf k ls) a) t (maxLook k a t)
 max-look k a ls r d z t = keep-look (atMost lengthOf k ls) (λ f. shortOf f k) a r d z (λ x m. short-mark k (x .start) (x .end) (d (x .start) (x .end) m)) t
-
--- ── or ──
-
-better-is : (g h : fronts.Front) → betterOf (front g) (front h) ≡ front (better g h)
-unfolding betterOf
-better-is None h = refl
-better-is (At x) None = refl
-better-is (At x) (At y) = go (ltb (y .end) (x .end)) refl (ltb (x .end) (y .end)) refl (ltb (x .start) (y .start)) refl (wins x y) refl
-  where
-    go : (a : Bool) → ltb (y .end) (x .end) ≡ a → (b : Bool) → ltb (x .end) (y .end) ≡ b → (c : Bool) → ltb (x .start) (y .start) ≡ c → (w : Bool) → wins x y ≡ w
-        → pickF a (atF (y .start) (y .end)) (pickF b (atF (x .start) (x .end)) (pickF c (atF (y .start) (y .end)) (atF (x .start) (x .end)))) ≡ front (cond w (At x) (At y))
-    go true p b q c i true j = absurd (omega (arith, ltb-true (y .end) (x .end) p, wins-true x y j .0))
-    go true p b q c i false j = refl
-    go false p true q c i true j = refl
-    go false p true q c i false j = absurd (omega (arith, ltb-true (x .end) (y .end) q, wins-false x y j .0))
-    go false p false q true i true j =
-        absurd (omega (arith, ltb-true (x .start) (y .start) i, wins-true x y j .1 (omega (arith, ltb-false (y .end) (x .end) p, ltb-false (x .end) (y .end) q))))
-    go false p false q true i false j = refl
-    go false p false q false i true j = refl
-    go false p false q false i false j =
-        let e : x .end ≡ y .end = omega (arith, ltb-false (y .end) (x .end) p, ltb-false (x .end) (y .end) q) in
-        ap (λ (z : Stretch). atF (z .start) (z .end)) (st-path x y (omega (arith, ltb-false (x .start) (y .start) i, wins-false x y j .1 e)) e)
-
-better-assoc : (f g h : fronts.Front) → better (better f g) h ≡ better f (better g h)
-better-assoc None g h = refl
-better-assoc (At x) None h = refl
-better-assoc (At x) (At y) None = cases (wins x y) (λ b. better (cond b (At x) (At y)) None ≡ cond b (At x) (At y)) (λ k. refl) (λ k. refl)
-better-assoc (At x) (At y) (At z) = go (wins x y) refl (wins y z) refl (wins x z) refl
-  where
-    ends : x .start ≡ z .start → x .end ≡ z .end → At x ≡ At z
-    ends p q = ap At (st-path x z p q)
-
-    go : (a : Bool) → wins x y ≡ a → (b : Bool) → wins y z ≡ b → (c : Bool) → wins x z ≡ c
-        → better (cond a (At x) (At y)) (At z) ≡ better (At x) (cond b (At y) (At z))
-    go true p true q true i = ap (λ c. cond c (At x) (At z)) i ∙ sym (ap (λ c. cond c (At x) (At y)) p)
-    go true p true q false i =
-        let u = wins-true x y p in
-        let v = wins-true y z q in
-        let w = wins-false x z i in
-        let e : x .end ≡ z .end = omega (arith, u .0, v .0, w .0) in
-        let s : x .start ≡ z .start = omega (arith, w .1 e, u .1 (omega (arith, u .0, v .0)), v .1 (omega (arith, u .0, v .0))) in
-        ap (λ c. cond c (At x) (At z)) i ∙ (sym (ends s e) ∙ sym (ap (λ c. cond c (At x) (At y)) p))
-    go true p false q c i = refl
-    go false p true q c i = ap (λ c. cond c (At y) (At z)) q ∙ sym (ap (λ c. cond c (At x) (At y)) p)
-    go false p false q true i =
-        let u = wins-false x y p in
-        let v = wins-false y z q in
-        let w = wins-true x z i in
-        let e : x .end ≡ z .end = omega (arith, u .0, v .0, w .0) in
-        let s : x .start ≡ z .start = omega (arith, w .1 e, u .1 (omega (arith, u .0, v .0)), v .1 (omega (arith, u .0, v .0))) in
-        ap (λ c. cond c (At y) (At z)) q ∙ (sym (ends s e) ∙ sym (ap (λ c. cond c (At x) (At z)) i))
-    go false p false q false i = ap (λ c. cond c (At y) (At z)) q ∙ sym (ap (λ c. cond c (At x) (At z)) i)
-
-unfoldable pub bestFrom : ℕ → Front → List (List Stretch) → Front
-bestFrom t acc [] = acc
-bestFrom t acc (l ∷ ls) = bestFrom t (betterOf acc (front (firstFrom l t))) ls
-
-best-is : (t : ℕ) (ls : List (List Stretch)) (g : fronts.Front) → bestFrom t (front g) ls ≡ front (better g (bestFront ls t))
-unfolding bestFrom
-best-is t [] None = refl
-best-is t [] (At x) = refl
-best-is t (l ∷ ls) g =
-    ap (λ (f : Front). bestFrom t f ls) (better-is g (firstFrom l t))
-    ∙ (best-is t ls (better g (firstFrom l t)) ∙ ap front (better-assoc g (firstFrom l t) (bestFront ls t)))
-
-pub or-look : (ls : List (List Stretch)) → AllRising ls → (t : ℕ) → bestFrom t noneF ls ≡ front (firstFrom (answers Or ls) t)
-or-look ls r t = best-is t ls None ∙ ap front (sym (or-front ls r t))

@@ -1,29 +1,29 @@
 -- What a node of the tree finds, by its kind in the table: one record for each way of the machine. A kind fixes the symbol, and the symbol the operator.
 -- Assumes nothing.
-use mathlib.Core.Path.{_≡_, refl, sym, ap, ap₂, subst, _∙_}
+use mathlib.Core.Path.{_≡_, refl, sym, ap, subst}
 use mathlib.Core.Logic.{_⊎_, inl, inr}
-use mathlib.Core.List.{List, [], _∷_}
-use Prim.Native.Nat.{ℕ, zero, suc, _+_, _≤_, _<_}
+use mathlib.Core.List.{List, []}
+use Prim.Native.Nat.{ℕ, _+_, _≤_, _<_}
 use native.Mathlib.Omega.{arith}
-use Rattle.stretches.specs.Stretch.{Stretch, st, In, Rising, Op, answers}
+use Rattle.stretches.specs.Stretch.{Stretch, Op, answers}
 use Rattle.stretches.specs.Stretch as op
 use Rattle.stretches.specs.Front as fronts
 use Rattle.stretches.specs.Front.{None, At, firstFrom}
-use Rattle.stretches.proofs.Answers.{AllRising, AllSound, Sound, cand-sound}
+use Rattle.stretches.proofs.Answers.{AllRising, AllSound, cand-sound}
 use Rattle.stretches.proofs.Fronts.{FirstIs, first-good, first-is, first-none}
-use Rattle.stretches.proofs.Cut.{Below, AllBelow, cand-below}
+use Rattle.stretches.proofs.Cut.{cand-below}
 use Rattle.stretches.proofs.Tight.{Tight}
-use Rattle.pattern.specs.Pattern.{Symbol, Ev, Fr, Or, And, Row, Then, Less, Max, Pattern, Patterns, Node, Nil, Cons, count}
-use Rattle.pattern.specs.Rows.{kindAt, firstAt, secondAt, Entry, Tree}
+use Rattle.pattern.specs.Pattern.{Symbol, And, Row, Then, Less, Max, Pattern, Patterns, Node, Nil, Cons, count}
+use Rattle.pattern.specs.Rows.{kindAt, firstAt, secondAt, Tree}
 use Rattle.meaning.specs.Meaning.{eval, evals}
 use Rattle.meaning.proofs.Tree.{Fine, AllFine, fine-eval, fine-evals}
 use Rattle.seek.specs.declared.Front.{Front}
-use Rattle.seek.specs.declared.fronts.Look.{Look}
-use Rattle.seek.specs.Moves.{atF, noneF, lookOf, goF, nextOf, stopOf, clearOf, shortOf, Serves, ended, ahead}
+use Rattle.seek.specs.Moves.{atF, noneF, lookOf, goF, nextOf, clearOf, shortOf, Serves, ended, ahead}
 use Rattle.seek.specs.Source.{Source, leafOf, valuation, Good}
 use Rattle.seek.specs.Seek.{Arity, Shaped, Fits, front, first, pass, passAll, look, Narrows, Skips}
 use Rattle.seek.proofs.Shape.{symbolOf, symbol-is, Rest, operands, rest-kid, rest-next}
-use Rattle.seek.proofs.Looks.{TightLook, SkipLook, and-look, then-look, row-look, less-look, max-look, bestFrom, or-look}
+use Rattle.seek.proofs.Looks.{TightLook, SkipLook, and-look, then-look, row-look, less-look, max-look}
+use Rattle.seek.proofs.Best.{bestFrom, or-look}
 
 -- ── Every pattern's answers ──
 

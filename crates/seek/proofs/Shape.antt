@@ -2,9 +2,9 @@
 -- Assumes nothing.
 use mathlib.Core.Path.{_≡_, refl, sym, ap, ap₂, subst, _∙_}
 use mathlib.Core.Bool.{true, false, cond}
-use mathlib.Core.Logic.{_⊎_, inl, inr}
+use mathlib.Core.Logic.{inl, inr}
 use mathlib.Core.List.{List}
-use Prim.Native.Nat.{ℕ, zero, suc, _+_, _-_, _≤_, _<_, max}
+use Prim.Native.Nat.{ℕ, suc, _+_, _-_, _≤_, _<_}
 use native.Mathlib.Omega.{arith}
 use lib.Dec.{leb, eqb}
 use borrow.Author.Tests.{le-leb, ne-eqb}
@@ -41,6 +41,10 @@ mutual
   all-shaped : (ps : Patterns) → AllFormed ps → AllShaped ps
   all-shaped Nil w = tt
   all-shaped (Cons p ps) w = (formed-shaped p (w .0), all-shaped ps (w .1))
+
+-- a well-formed pattern within bounds fits where it stands
+pub formed-fits : (rows : List ℕ) (q : Pattern) → WellFormed q → nodes q ≤ 32 → depth q ≤ 8 → Tree rows 0 q → Fits rows 0 q 8
+formed-fits rows q w n d t = record { tree = t; shape = formed-shaped q w; room = omega arith; low = d }
 
 -- ── A node's symbol, read off its numbers ──
 

@@ -1,25 +1,25 @@
 -- Good sources: a log that is not too long, and lent lists that rise, are sound, end below 65,536 and lie inside the items; and the tree of an operator over lent lists.
 -- Assumes nothing.
 use mathlib.Core.Path.{_≡_, refl, sym, ap, ap₂, subst, _∙_}
-use mathlib.Core.Logic.{_⊎_, inl, inr, ⊎-elim}
-use mathlib.Core.List.{List, [], _∷_, map}
+use mathlib.Core.Logic.{⊎-elim}
+use mathlib.Core.List.{List, [], _∷_}
 use mathlib.Core.Option.{Option, some}
-use Prim.Native.Nat.{ℕ, zero, suc, _+_, _≤_, _<_, max}
+use Prim.Native.Nat.{ℕ, zero, suc, _+_, _≤_, _<_}
 use native.Mathlib.Omega.{arith}
 use lib.ListN.{length, getD, length-map}
-use Rattle.stretches.specs.Stretch.{Stretch, Op, answers, lengthOf, marks}
+use Rattle.stretches.specs.Stretch.{Stretch, Op, answers, lengthOf}
 use Rattle.stretches.proofs.Lists.{le-or-lt}
 use Rattle.event_log.specs.Lines.{lines}
 use Rattle.event_log.specs.Line.{meaning}
 use Rattle.event_log.specs.Reading.{says}
 use Rattle.event_log.proofs.LinesLaws.{cut-few}
-use Rattle.pattern.specs.Pattern.{Symbol, Ev, Pattern, Patterns, Node, Nil, Cons, count, nodes, nodesOf, depth, deepest}
+use Rattle.pattern.specs.Pattern.{Symbol, Ev, Pattern, count, nodesOf, deepest}
 use Rattle.pattern.specs.Rows.{firstOf, Entry, Tree, Trees}
-use Rattle.meaning.specs.Meaning.{matches, operator, apply, eval, evals, answersIn}
+use Rattle.meaning.specs.Meaning.{operator, apply, eval, evals, answersIn}
 use Rattle.meaning.specs.Lent.{listsFrom, listsOf}
 use Rattle.meaning.proofs.Tree.{Fine, fine-leaf}
-use Rattle.seek.specs.Source.{Source, source, leafOf, valuation, Good, listLeaves, listTree}
-use Rattle.seek.specs.Seek.{Arity, Shaped, AllShaped, Fits}
+use Rattle.seek.specs.Source.{source, leafOf, valuation, Good, listLeaves, listTree}
+use Rattle.seek.specs.Seek.{Arity, AllShaped, Fits}
 use Rattle.seek.proofs.LeafLaws.{over-lists, lists-out}
 
 -- ── A log ──

@@ -1,13 +1,11 @@
 -- The turns of `or` and of a pass over operands: what is left of the operands at each turn, and one law for each return and turn.
 -- Assumes nothing.
-use mathlib.Core.Path.{_≡_, refl, sym, ap, subst, _∙_}
+use mathlib.Core.Path.{_≡_, sym, ap, subst, _∙_}
 use mathlib.Core.Logic.{_⊎_, inl, inr, ⊎-elim}
 use mathlib.Core.List.{List}
-use Prim.Native.Nat.{ℕ, suc, _+_, _≤_, _<_}
+use Prim.Native.Nat.{ℕ, _+_, _≤_, _<_}
 use native.Mathlib.Omega.{arith}
-use lib.Dec.{eqb}
 use borrow.Author.Tests.{eq-eqb, ne-eqb}
-use Rattle.stretches.specs.Stretch.{Stretch}
 use Rattle.stretches.proofs.Lists.{eq-or-ne}
 use Rattle.pattern.specs.Pattern.{Pattern, Patterns, Nil, Cons}
 use Rattle.pattern.specs.Rows.{kindAt, firstAt}
@@ -18,7 +16,7 @@ use Rattle.seek.specs.Moves.{noneF, noLook, lookOf, pickL, goF, nextOf, 
 use Rattle.seek.specs.Source.{Source, valuation}
 use Rattle.seek.specs.Seek.{Fits, first, pass, look, Ready, Sought, Looked}
 use Rattle.seek.proofs.Shape.{nodes-some, Rest, rest-kid, rest-next}
-use Rattle.seek.proofs.Looks.{bestFrom}
+use Rattle.seek.proofs.Best.{bestFrom}
 use Rattle.seek.proofs.Nodes.{either, Passing, passing, lessing, maxing}
 
 -- ── or ──

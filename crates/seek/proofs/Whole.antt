@@ -1,8 +1,8 @@
 -- All steps: from the opening on, up to the first that says none, they give the pattern's answers; and such steps there are.
 -- Assumes nothing.
-use mathlib.Core.Path.{_≡_, refl, sym, ap, ap₂, subst, _∙_}
+use mathlib.Core.Path.{_≡_, refl, sym, ap, subst, _∙_}
 use mathlib.Core.Bool.{Bool, true, false}
-use mathlib.Core.List.{List, [], _∷_}
+use mathlib.Core.List.{List, _∷_}
 use Prim.Native.Nat.{ℕ, zero, suc, _+_, _≤_, _<_}
 use native.Mathlib.Omega.{arith}
 use lib.Dec.{eqb}
@@ -12,10 +12,9 @@ use Rattle.stretches.specs.Stretch.{Stretch, st}
 use Rattle.stretches.specs.Front.{firstFrom}
 use Rattle.pattern.specs.Pattern.{Pattern}
 use Rattle.meaning.specs.Meaning.{eval}
-use Rattle.seek.specs.declared.Front.{Front}
 use Rattle.seek.specs.Source.{Source, valuation, Good}
 use Rattle.seek.specs.Seek.{Fits, front, first}
-use Rattle.seek.specs.Steps.{nth, Led, onFrom, Stepped, NextOf, Run, over, more}
+use Rattle.seek.specs.Steps.{Led, onFrom, NextOf, Run, over, more}
 use Rattle.seek.proofs.Shape.{tree-one}
 use Rattle.seek.proofs.Nodes.{fine}
 use Rattle.seek.proofs.Walk.{led-start, ready-none, front-nth, on-rest, nth-none, nth-some}

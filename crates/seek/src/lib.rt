@@ -27,7 +27,8 @@ pub struct Walked {
     pub more: bool,
 }
 
-// The next answer: the first of the root that starts at or after t, which is one past the last answer's start.
+// The next answer: the first of the root that starts at or after t, which is one past the last answer's start; none where there is no more.
+// A table, a state or a source that no opening made gets some front, or none.
 pub fn next(
     rows: &[usize; 128],
     log: &[u8],
@@ -122,7 +123,8 @@ fn put_all(
     }
 }
 
-// Writes the answers from number `from` on into the cells, start then end, as many as whole pairs fit.
+// Writes the answers from number `from` on into the cells, start then end, as many as whole pairs fit; later cells keep their contents.
+// A table or a source that no caller checked gets some stretches written, no more than fit.
 pub fn fill(
     rows: &[usize; 128],
     log: &[u8],

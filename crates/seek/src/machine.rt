@@ -48,7 +48,7 @@ fn seek_or(
     best
 }
 
-// One pass over v's operands from t on, for `and`, `then` and `row`: none where a child has none.
+// One pass over v's operands from t on, for `and`, `then` and `row`: none where an operand has none.
 fn pass(
     rows: &[usize; 128],
     log: &[u8],

@@ -1,16 +1,12 @@
+-- `finder::open` meets its contract: one law, from what reading both gives. Assumes nothing.
 use Rattle.finder.proofs.Calls.{open-gives}
 use borrow.Author.Needs.{needs}
 use Rattle.finder.proofs.open.Statement.{statement}
 use Rattle.finder.proofs.open.Tie as tie
-use Rattle.finder.proofs.open.Reads as reads
-use Rattle.finder.proofs.open.Lts as lts
-use Rattle.finder.proofs.read_both.Reads as read-both-reads
 
--- src/lib.rt:95:9
 read-both-requires : tie.Need-read-both-requires
 read-both-requires c κs = search needs
 
--- src/lib.rt:92:1
 returns : tie.Need-returns
 returns c = open-gives (c .before .before .before .before .before .args .text .now) (c .before .before .before .before .before .args .log .now) (c .before .before .read-both .result) (c .before .before .read-both .ensures)
 

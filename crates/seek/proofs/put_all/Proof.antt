@@ -5,7 +5,7 @@ use Prim.Native.Nat.{_+_, _*_}
 use native.Mathlib.Omega.{arith}
 use lib.ListN.{length, drop, length-set}
 use Rattle.seek.specs.Source.{source}
-use Rattle.seek.proofs.Walk.{PutInv, put-start, put-turn, put-done, put-full, kept-turn}
+use Rattle.seek.proofs.Written.{PutInv, put-start, put-turn, put-done, put-full, kept-turn}
 use borrow.Author.Needs.{needs}
 use Rattle.seek.proofs.put_all.Statement.{statement}
 use Rattle.seek.proofs.put_all.Tie as tie

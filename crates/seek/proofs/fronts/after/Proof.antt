@@ -1,9 +1,9 @@
-use borrow.Author.Tests.{ne-eqb, eq-eqb, lt-ltb, le-ltb, le-leb, lt-leb}
+-- `seek::fronts::after` meets its contract. Each return is a case of the choice.
+-- Assumes nothing.
+use borrow.Author.Tests.{lt-ltb, le-ltb}
 use borrow.Author.Needs.{needs}
 use Rattle.seek.proofs.fronts.after.Statement.{statement}
 use Rattle.seek.proofs.fronts.after.Tie as tie
-use Rattle.seek.proofs.fronts.after.Reads as reads
-use Rattle.seek.proofs.fronts.after.Lts as lts
 
 add-result : tie.Need-add-result
 add-result c = search needs

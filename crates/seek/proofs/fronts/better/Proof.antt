@@ -1,10 +1,9 @@
-use borrow.Author.Tests.{ne-eqb, eq-eqb, lt-ltb, le-ltb, le-leb, lt-leb}
+-- `seek::fronts::better` meets its contract. Each return is a case of `betterOf`.
+-- Assumes nothing.
+use borrow.Author.Tests.{ne-eqb, eq-eqb, lt-ltb, le-ltb}
 use Rattle.seek.specs.Moves.{betterOf}
-use borrow.Author.Needs.{needs}
 use Rattle.seek.proofs.fronts.better.Statement.{statement}
 use Rattle.seek.proofs.fronts.better.Tie as tie
-use Rattle.seek.proofs.fronts.better.Reads as reads
-use Rattle.seek.proofs.fronts.better.Lts as lts
 
 returns : tie.Need-returns
 unfolding betterOf

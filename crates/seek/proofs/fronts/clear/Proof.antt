@@ -1,10 +1,9 @@
-use borrow.Author.Tests.{ne-eqb, eq-eqb, lt-ltb, le-ltb, le-leb, lt-leb}
+-- `seek::fronts::clear` meets its contract. Each return is a case of `clearOf`.
+-- Assumes nothing.
+use borrow.Author.Tests.{ne-eqb, eq-eqb, le-leb, lt-leb}
 use Rattle.seek.specs.Moves.{clearOf}
-use borrow.Author.Needs.{needs}
 use Rattle.seek.proofs.fronts.clear.Statement.{statement}
 use Rattle.seek.proofs.fronts.clear.Tie as tie
-use Rattle.seek.proofs.fronts.clear.Reads as reads
-use Rattle.seek.proofs.fronts.clear.Lts as lts
 
 returns : tie.Need-returns
 unfolding clearOf

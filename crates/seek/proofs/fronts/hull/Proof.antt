@@ -1,11 +1,9 @@
+-- `seek::fronts::hull` meets its contract. Its fields are those of `hullOf`.
+-- Assumes nothing.
 use Rattle.seek.specs.Moves.{hullOf}
 use borrow.Author.Needs.{needs}
 use Rattle.seek.proofs.fronts.hull.Statement.{statement}
 use Rattle.seek.proofs.fronts.hull.Tie as tie
-use Rattle.seek.proofs.fronts.hull.Reads as reads
-use Rattle.seek.proofs.fronts.hull.Lts as lts
-use Rattle.seek.proofs.fronts.least.Reads as least-reads
-use Rattle.seek.proofs.fronts.most.Reads as most-reads
 
 least-requires : tie.Need-least-requires
 least-requires c κs = search needs

@@ -1,12 +1,11 @@
-use borrow.Author.Tests.{ne-eqb, eq-eqb, lt-ltb, le-ltb, le-leb, lt-leb}
+-- `seek::fronts::link` meets its contract. Each return is a case of `linkOf`.
+-- Assumes nothing.
+use borrow.Author.Tests.{ne-eqb, eq-eqb}
 use mathlib.Core.Path.{sym, _∙_}
 use Rattle.seek.specs.Moves.{linkOf, afterOf}
 use borrow.Author.Needs.{needs}
 use Rattle.seek.proofs.fronts.link.Statement.{statement}
 use Rattle.seek.proofs.fronts.link.Tie as tie
-use Rattle.seek.proofs.fronts.link.Reads as reads
-use Rattle.seek.proofs.fronts.link.Lts as lts
-use Rattle.seek.proofs.fronts.after.Reads as after-reads
 
 after-requires : tie.Need-after-requires
 after-requires c κs = search needs

@@ -1,9 +1,8 @@
-use borrow.Author.Tests.{ne-eqb, eq-eqb, lt-ltb, le-ltb, le-leb, lt-leb}
-use borrow.Author.Needs.{needs}
+-- `seek::fronts::most` meets its contract. Each return is a case of the choice.
+-- Assumes nothing.
+use borrow.Author.Tests.{lt-ltb, le-ltb}
 use Rattle.seek.proofs.fronts.most.Statement.{statement}
 use Rattle.seek.proofs.fronts.most.Tie as tie
-use Rattle.seek.proofs.fronts.most.Reads as reads
-use Rattle.seek.proofs.fronts.most.Lts as lts
 
 returns : tie.Need-returns
 returns c = simp (lt-ltb _ _ (c .if1 .taken))

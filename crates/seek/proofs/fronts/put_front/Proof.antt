@@ -1,10 +1,10 @@
+-- `seek::fronts::put_front` meets its contract. The four stores are those of `putAt`.
+-- Assumes nothing.
 use mathlib.Core.Path.{refl}
 use Rattle.seek.specs.Moves.{putAt}
 use borrow.Author.Needs.{needs}
 use Rattle.seek.proofs.fronts.put_front.Statement.{statement}
 use Rattle.seek.proofs.fronts.put_front.Tie as tie
-use Rattle.seek.proofs.fronts.put_front.Reads as reads
-use Rattle.seek.proofs.fronts.put_front.Lts as lts
 
 mul-st : tie.Need-mul-st
 mul-st c = search needs

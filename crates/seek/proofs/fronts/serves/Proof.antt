@@ -1,13 +1,12 @@
+-- `seek::fronts::serves` meets its contract. A front serves where it is none, or starts at t or later.
+-- Assumes nothing.
 use native.Mathlib.Omega.{arith}
 use mathlib.Core.Path.{_≡_}
 use Prim.Native.Nat.{ℕ}
-use Rattle.seek.specs.Moves.{Serves, ended, ahead}
+use Rattle.seek.specs.Moves.{ended, ahead}
 use mathlib.Core.Bool.{true, false}
-use borrow.Author.Needs.{needs}
 use Rattle.seek.proofs.fronts.serves.Statement.{statement}
 use Rattle.seek.proofs.fronts.serves.Tie as tie
-use Rattle.seek.proofs.fronts.serves.Reads as reads
-use Rattle.seek.proofs.fronts.serves.Lts as lts
 
 never : {A : Type 0} → false ≡ true → A
 never e = absurd (let z : _≡_ {A = ℕ} 0 1 = cc in omega arith)

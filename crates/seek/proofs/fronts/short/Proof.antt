@@ -1,7 +1,6 @@
 -- `seek::fronts::short` meets its contract. Each return is a case of `shortOf`.
 -- Assumes nothing.
 use borrow.Author.Tests.{lt-ltb, le-ltb, le-leb, lt-leb}
-use native.Mathlib.Omega.{arith}
 use mathlib.Core.Path.{subst}
 use Prim.Native.Nat.{ℕ, _≤_, _<_}
 use Rattle.seek.specs.Moves.{shortOf}

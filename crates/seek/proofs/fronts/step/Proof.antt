@@ -1,12 +1,10 @@
-use borrow.Author.Tests.{ne-eqb, eq-eqb, lt-ltb, le-ltb, le-leb, lt-leb}
+-- `seek::fronts::step` meets its contract. Each return is a case of `stepOf`.
+-- Assumes nothing.
+use borrow.Author.Tests.{ne-eqb, eq-eqb}
 use Rattle.seek.specs.Moves.{stepOf}
 use borrow.Author.Needs.{needs}
 use Rattle.seek.proofs.fronts.step.Statement.{statement}
 use Rattle.seek.proofs.fronts.step.Tie as tie
-use Rattle.seek.proofs.fronts.step.Reads as reads
-use Rattle.seek.proofs.fronts.step.Lts as lts
-use Rattle.seek.proofs.fronts.hull.Reads as hull-reads
-use Rattle.seek.proofs.fronts.link.Reads as link-reads
 
 hull-requires : tie.Need-hull-requires
 hull-requires c κs = search needs

@@ -1,11 +1,10 @@
-use borrow.Author.Tests.{ne-eqb, eq-eqb, lt-ltb, le-ltb, le-leb, lt-leb}
+-- `seek::fronts::to_of` meets its contract. Each return is a case of `toOf`.
+-- Assumes nothing.
+use borrow.Author.Tests.{ne-eqb, eq-eqb}
 use Rattle.seek.specs.Moves.{toOf}
 use borrow.Author.Needs.{needs}
 use Rattle.seek.proofs.fronts.to_of.Statement.{statement}
 use Rattle.seek.proofs.fronts.to_of.Tie as tie
-use Rattle.seek.proofs.fronts.to_of.Reads as reads
-use Rattle.seek.proofs.fronts.to_of.Lts as lts
-use Rattle.seek.proofs.fronts.after.Reads as after-reads
 
 returns : tie.Need-returns
 unfolding toOf

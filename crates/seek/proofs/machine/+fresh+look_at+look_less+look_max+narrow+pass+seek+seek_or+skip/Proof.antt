@@ -1,4 +1,5 @@
--- The one proof of the cycle of calls. Assumes nothing.
+-- The machine's calls go round, so their contracts have one proof: each call goes to less fuel, or at equal fuel to a lower rank.
+-- Assumes nothing.
 mod Common
 mod Fresh
 mod LookAt

@@ -1,5 +1,6 @@
--- The measures of the cycle, and what each member is given at the measure t and asks below it. Assumes nothing.
-use Prim.Native.Nat.{ℕ, _<_, _+_, _*_, _-_}
+-- The measures of the cycle, and what each member is given at the measure t and asks below it.
+-- Assumes nothing.
+use Prim.Native.Nat.{ℕ, _+_, _*_, _<_}
 use borrow.Fn.Kinds.{In}
 use borrow.Fn.PlainCycle.{Measures, is, falls, and}
 use Rattle.seek.proofs.machine.fresh.Reads as fresh

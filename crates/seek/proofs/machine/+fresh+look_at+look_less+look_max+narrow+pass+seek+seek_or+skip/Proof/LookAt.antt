@@ -1,7 +1,7 @@
--- The needs of `look_at`. Assumes nothing.
-use Prim.Native.Nat.{ℕ, _<_, _≤_, _+_, _*_, _-_}
+-- `seek::machine::look_at` meets its contract: each return and turn is one law.
+-- Assumes nothing.
+use Prim.Native.Nat.{ℕ}
 use borrow.Author.Needs.{needs}
-use native.Mathlib.Omega.{arith}
 use Rattle.seek.proofs.machine.look_at.Reads as look-at
 use Rattle.seek.proofs.machine.look_less.Reads as look-less
 use Rattle.seek.proofs.machine.look_max.Reads as look-max
@@ -13,35 +13,27 @@ use Rattle.seek.proofs.Turns.{look-pass}
 abbrev R : ℕ → lts.Claims
 R t = (look-less-below t, look-less.Post, look-max-below t, look-max.Post, pass-below t, pass.Post)
 
--- src/machine.rt:133:16
 mul-kind : (t : ℕ) → lts.Need-mul-kind (R t) (look-at-at t) look-at.Post
 mul-kind t c = search needs
 
--- src/machine.rt:133:16
 element-copy-out-kind : (t : ℕ) → lts.Need-element-copy-out-kind (R t) (look-at-at t) look-at.Post
 element-copy-out-kind t c = search needs
 
--- src/machine.rt:135:9
 look-less-requires : (t : ℕ) → lts.Need-look-less-requires (R t) (look-at-at t) look-at.Post
 look-less-requires t c κs = search needs
 
--- src/machine.rt:135:9
 returns : (t : ℕ) → lts.Need-returns (R t) (look-at-at t) look-at.Post
 returns t c = c .look-less .ensures (c .before .before .if1 .taken)
 
--- src/machine.rt:138:9
 look-max-requires : (t : ℕ) → lts.Need-look-max-requires (R t) (look-at-at t) look-at.Post
 look-max-requires t c κs = search needs
 
--- src/machine.rt:138:9
 returns-2 : (t : ℕ) → lts.Need-returns-2 (R t) (look-at-at t) look-at.Post
 returns-2 t c = c .look-max .ensures (c .before .before .if2 .taken)
 
--- src/machine.rt:140:5
 pass-requires : (t : ℕ) → lts.Need-pass-requires (R t) (look-at-at t) look-at.Post
 pass-requires t c κs = search needs
 
--- src/machine.rt:120:1
 returns-3 : (t : ℕ) → lts.Need-returns-3 (R t) (look-at-at t) look-at.Post
 returns-3 t c = look-pass (c .before .before .before .if1 .left) (c .before .before .if2 .left) (c .pass .ensures)
 

@@ -1,7 +1,7 @@
--- The needs of `look_max`. Assumes nothing.
-use Prim.Native.Nat.{ℕ, _<_, _≤_, _+_, _*_, _-_}
+-- `seek::machine::look_max` meets its contract: each return and turn is one law.
+-- Assumes nothing.
+use Prim.Native.Nat.{ℕ}
 use borrow.Author.Needs.{needs}
-use native.Mathlib.Omega.{arith}
 use Rattle.seek.proofs.fronts.look_of.Reads as look-of-reads
 use Rattle.seek.proofs.fronts.no_look.Reads as no-look-reads
 use Rattle.seek.proofs.fronts.short.Reads as short-reads
@@ -14,43 +14,33 @@ use Rattle.seek.proofs.Turns.{max-gone, max-done}
 abbrev R : ℕ → lts.Claims
 R t = (seek-below t, seek.Post, no-look-reads.Asked, no-look-reads.Learnt, short-reads.Asked, short-reads.Learnt, look-of-reads.Asked, look-of-reads.Learnt)
 
--- src/machine.rt:111:18
 add-k : (t : ℕ) → lts.Need-add-k (R t) (look-max-at t) look-max.Post
 add-k t c = search needs
 
--- src/machine.rt:111:13
 mul-k : (t : ℕ) → lts.Need-mul-k (R t) (look-max-at t) look-max.Post
 mul-k t c = search needs
 
--- src/machine.rt:111:13
 element-copy-out-k : (t : ℕ) → lts.Need-element-copy-out-k (R t) (look-max-at t) look-max.Post
 element-copy-out-k t c = search needs
 
--- src/machine.rt:112:46
 add-seek : (t : ℕ) → lts.Need-add-seek (R t) (look-max-at t) look-max.Post
 add-seek t c = search needs
 
--- src/machine.rt:112:9
 seek-requires : (t : ℕ) → lts.Need-seek-requires (R t) (look-max-at t) look-max.Post
 seek-requires t c κs = search needs
 
--- src/machine.rt:114:9
 no-look-requires : (t : ℕ) → lts.Need-no-look-requires (R t) (look-max-at t) look-max.Post
 no-look-requires t c κs = search needs
 
--- src/machine.rt:114:9
 returns : (t : ℕ) → lts.Need-returns (R t) (look-max-at t) look-max.Post
 returns t c = λ k. max-gone (c .before .before .before .seek .ensures) (c .before .if1 .taken) (c .no-look .ensures) k
 
--- src/machine.rt:116:16
 short-requires : (t : ℕ) → lts.Need-short-requires (R t) (look-max-at t) look-max.Post
 short-requires t c κs = search needs
 
--- src/machine.rt:116:5
 look-of-requires : (t : ℕ) → lts.Need-look-of-requires (R t) (look-max-at t) look-max.Post
 look-of-requires t c κs = search needs
 
--- src/machine.rt:98:1
 returns-2 : (t : ℕ) → lts.Need-returns-2 (R t) (look-max-at t) look-max.Post
 returns-2 t c = λ k. max-done (c .before .before .before .before .seek .ensures) (c .before .before .if1 .left) (c .before .short .ensures) (c .look-of .ensures) k
 

@@ -1,7 +1,7 @@
--- The needs of `narrow`. Assumes nothing.
-use Prim.Native.Nat.{ℕ, _<_, _≤_, _+_, _*_, _-_}
+-- `seek::machine::narrow` meets its contract: each return and turn is one law.
+-- Assumes nothing.
+use Prim.Native.Nat.{ℕ, _-_}
 use borrow.Author.Needs.{needs}
-use native.Mathlib.Omega.{arith}
 use Rattle.seek.proofs.fronts.at.Reads as at-reads
 use Rattle.seek.proofs.fronts.none.Reads as none-reads
 use Rattle.seek.proofs.machine.look_at.Reads as look-at
@@ -20,67 +20,51 @@ Inv-loop rows log items ends st₀ v t fuel m₀ e st m = NarrowInv rows (source
 abbrev μ-loop : lts.MeasureT-loop
 μ-loop rows log items ends st₀ v t fuel m₀ e st m = 65536 - m
 
--- src/machine.rt:157:9
 look-at-requires : (t : ℕ) → lts.Need-look-at-requires (R t) (narrow-at t) narrow.Post Inv-loop μ-loop
 look-at-requires t c κs = search needs
 
--- src/machine.rt:159:9
 none-requires : (t : ℕ) → lts.Need-none-requires (R t) (narrow-at t) narrow.Post Inv-loop μ-loop
 none-requires t c κs = search needs
 
--- src/machine.rt:159:9
 returns : (t : ℕ) → lts.Need-returns (R t) (narrow-at t) narrow.Post Inv-loop μ-loop
 returns t c = λ k. narrow-gone (c .before .before .before .look-at .ensures) (c .before .if1 .taken) (c .none .ensures) k
 
--- src/machine.rt:163:5
 loop-holds : (t : ℕ) → lts.Need-loop-holds (R t) (narrow-at t) narrow.Post Inv-loop μ-loop
 loop-holds t c = narrow-start
 
--- src/machine.rt:164:56
 add-look-at : (t : ℕ) → lts.Need-add-look-at (R t) (narrow-at t) narrow.Post Inv-loop μ-loop
 add-look-at t c = search needs
 
--- src/machine.rt:164:13
 look-at-requires-2 : (t : ℕ) → lts.Need-look-at-requires-2 (R t) (narrow-at t) narrow.Post Inv-loop μ-loop
 look-at-requires-2 t c κs = search needs
 
--- src/machine.rt:166:13
 at-requires : (t : ℕ) → lts.Need-at-requires (R t) (narrow-at t) narrow.Post Inv-loop μ-loop
 at-requires t c κs = search needs
 
--- src/machine.rt:166:13
 returns-2 : (t : ℕ) → lts.Need-returns-2 (R t) (narrow-at t) narrow.Post Inv-loop μ-loop
 returns-2 t c = λ k. narrow-last (c .before .before .before .before .before .before .before .before .before .look-at .ensures) (c .before .before .before .before .before .before .before .if1 .left) (c .before .before .before .before .before .before .loop .inv) k (c .before .before .before .look-at2 .ensures) (c .before .if2 .taken) (c .at .ensures)
 
--- src/machine.rt:169:13
 at-requires-2 : (t : ℕ) → lts.Need-at-requires-2 (R t) (narrow-at t) narrow.Post Inv-loop μ-loop
 at-requires-2 t c κs = search needs
 
--- src/machine.rt:169:13
 returns-3 : (t : ℕ) → lts.Need-returns-3 (R t) (narrow-at t) narrow.Post Inv-loop μ-loop
 returns-3 t c = λ k. narrow-over (c .before .before .before .before .before .before .before .before .before .before .before .look-at .ensures) (c .before .before .before .before .before .before .before .before .before .if1 .left) (c .before .before .before .before .before .before .before .before .loop .inv) k (c .before .before .before .before .before .look-at2 .ensures) (c .before .before .before .if2 .left) (c .before .if3 .taken) (c .at2 .ensures)
 
--- src/machine.rt:173:13
 at-requires-3 : (t : ℕ) → lts.Need-at-requires-3 (R t) (narrow-at t) narrow.Post Inv-loop μ-loop
 at-requires-3 t c κs = search needs
 
--- src/machine.rt:173:13
 returns-4 : (t : ℕ) → lts.Need-returns-4 (R t) (narrow-at t) narrow.Post Inv-loop μ-loop
 returns-4 t c = λ k. narrow-back (c .before .before .before .before .before .before .before .before .before .before .before .before .look-at .ensures) (c .before .before .before .before .before .before .before .before .before .before .if1 .left) (c .before .before .before .before .before .before .before .before .before .loop .inv) k (c .before .before .before .before .before .before .look-at2 .ensures) (c .before .before .before .before .if2 .left) (c .before .if4 .taken)
 
--- src/machine.rt:163:5
 loop-less : (t : ℕ) → lts.Need-loop-less (R t) (narrow-at t) narrow.Post Inv-loop μ-loop
 loop-less t c = search needs
 
--- src/machine.rt:163:5
 loop-again : (t : ℕ) → lts.Need-loop-again (R t) (narrow-at t) narrow.Post Inv-loop μ-loop
 loop-again t c = narrow-turn (c .before .before .before .before .before .before .before .before .loop .inv) (c .before .before .before .before .before .look-at2 .ensures) (c .before .before .before .if2 .left) (c .before .if3 .left)
 
--- src/machine.rt:177:5
 at-requires-4 : (t : ℕ) → lts.Need-at-requires-4 (R t) (narrow-at t) narrow.Post Inv-loop μ-loop
 at-requires-4 t c κs = search needs
 
--- src/machine.rt:144:1
 returns-5 : (t : ℕ) → lts.Need-returns-5 (R t) (narrow-at t) narrow.Post Inv-loop μ-loop
 returns-5 t c = λ k. narrow-out (c .before .before .before .before .before .look-at .ensures) (c .before .before .before .if1 .left) (c .before .before .loop .inv) k (c .before .loop-test .left)
 

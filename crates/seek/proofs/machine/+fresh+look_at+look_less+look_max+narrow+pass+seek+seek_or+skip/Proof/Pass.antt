@@ -1,5 +1,6 @@
--- The needs of `pass`. Assumes nothing.
-use Prim.Native.Nat.{ℕ, _<_, _≤_, _+_, _*_, _-_}
+-- `seek::machine::pass` meets its contract: each return and turn is one law.
+-- Assumes nothing.
+use Prim.Native.Nat.{ℕ, _-_}
 use borrow.Author.Needs.{needs}
 use native.Mathlib.Omega.{arith}
 use Rattle.seek.proofs.fronts.look_of.Reads as look-of-reads
@@ -24,83 +25,63 @@ Inv-loop rows log items ends st₀ v t fuel kind stop h₀ c₀ st h c = PassInv
 abbrev μ-loop : lts.MeasureT-loop
 μ-loop rows log items ends st₀ v t fuel kind stop h₀ c₀ st h c = 32 - c
 
--- src/machine.rt:53:16
 mul-kind : (t : ℕ) → lts.Need-mul-kind (R t) (pass-at t) pass.Post Inv-loop μ-loop
 mul-kind t c = search needs
 
--- src/machine.rt:53:16
 element-copy-out-kind : (t : ℕ) → lts.Need-element-copy-out-kind (R t) (pass-at t) pass.Post Inv-loop μ-loop
 element-copy-out-kind t c = search needs
 
--- src/machine.rt:54:9
 stop-of-requires : (t : ℕ) → lts.Need-stop-of-requires (R t) (pass-at t) pass.Post Inv-loop μ-loop
 stop-of-requires t c κs = search needs
 
--- src/machine.rt:55:46
 add-seek : (t : ℕ) → lts.Need-add-seek (R t) (pass-at t) pass.Post Inv-loop μ-loop
 add-seek t c = search needs
 
--- src/machine.rt:55:9
 seek-requires : (t : ℕ) → lts.Need-seek-requires (R t) (pass-at t) pass.Post Inv-loop μ-loop
 seek-requires t c κs = search needs
 
--- src/machine.rt:57:9
 no-look-requires : (t : ℕ) → lts.Need-no-look-requires (R t) (pass-at t) pass.Post Inv-loop μ-loop
 no-look-requires t c κs = search needs
 
--- src/machine.rt:57:9
 returns : (t : ℕ) → lts.Need-returns (R t) (pass-at t) pass.Post Inv-loop μ-loop
 returns t c = λ hi lo. pass-none (c .before .before .before .seek .ensures) (c .before .if1 .taken) (c .no-look .ensures) hi lo
 
--- src/machine.rt:59:9
 look-of-requires : (t : ℕ) → lts.Need-look-of-requires (R t) (pass-at t) pass.Post Inv-loop μ-loop
 look-of-requires t c κs = search needs
 
--- src/machine.rt:60:31
 add-next-of : (t : ℕ) → lts.Need-add-next-of (R t) (pass-at t) pass.Post Inv-loop μ-loop
 add-next-of t c = search needs
 
--- src/machine.rt:60:9
 next-of-requires : (t : ℕ) → lts.Need-next-of-requires (R t) (pass-at t) pass.Post Inv-loop μ-loop
 next-of-requires t c κs = search needs
 
--- src/machine.rt:61:5
 loop-holds : (t : ℕ) → lts.Need-loop-holds (R t) (pass-at t) pass.Post Inv-loop μ-loop
 loop-holds t c = pass-start (c .next-of .ensures .1)
 
--- src/machine.rt:62:53
 to-of-requires : (t : ℕ) → lts.Need-to-of-requires (R t) (pass-at t) pass.Post Inv-loop μ-loop
 to-of-requires t c κs = search needs
 
--- src/machine.rt:62:13
 seek-requires-2 : (t : ℕ) → lts.Need-seek-requires-2 (R t) (pass-at t) pass.Post Inv-loop μ-loop
 seek-requires-2 t c κs = search needs
 
--- src/machine.rt:64:13
 no-look-requires-2 : (t : ℕ) → lts.Need-no-look-requires-2 (R t) (pass-at t) pass.Post Inv-loop μ-loop
 no-look-requires-2 t c κs = search needs
 
--- src/machine.rt:64:13
 returns-2 : (t : ℕ) → lts.Need-returns-2 (R t) (pass-at t) pass.Post Inv-loop μ-loop
 returns-2 t c = λ hi lo. pass-stop (c .before .before .before .before .before .before .before .before .before .before .before .before .seek .ensures) (c .before .before .before .before .before .before .before .before .before .before .if1 .left) (c .before .before .before .before .before .before .before .before .before .look-of .ensures) (c .before .before .before .before .before .before .before .loop .inv) hi lo (omega (arith, c .before .before .before .before .before .before .before .before .before .before .before .before .before .before .stop-of .ensures .1)) (c .before .before .before .before .to-of .ensures) (c .before .before .before .seek2 .ensures) (c .before .if2 .taken) (c .no-look2 .ensures)
 
--- src/machine.rt:66:9
 step-requires : (t : ℕ) → lts.Need-step-requires (R t) (pass-at t) pass.Post Inv-loop μ-loop
 step-requires t c κs = search needs
 
--- src/machine.rt:67:9
 next-of-requires-2 : (t : ℕ) → lts.Need-next-of-requires-2 (R t) (pass-at t) pass.Post Inv-loop μ-loop
 next-of-requires-2 t c κs = omega (arith, c .before .before .before .before .before .before .before .before .before .before .before .before .before .before .stop-of .ensures .0)
 
--- src/machine.rt:61:5
 loop-less : (t : ℕ) → lts.Need-loop-less (R t) (pass-at t) pass.Post Inv-loop μ-loop
 loop-less t c = search needs
 
--- src/machine.rt:61:5
 loop-again : (t : ℕ) → lts.Need-loop-again (R t) (pass-at t) pass.Post Inv-loop μ-loop
 loop-again t c = pass-turn (c .before .before .before .before .before .before .before .before .loop .inv) (omega (arith, c .before .before .before .before .before .before .before .before .before .before .before .before .before .before .before .stop-of .ensures .1)) (c .before .before .before .before .before .to-of .ensures) (c .before .before .before .before .seek2 .ensures) (c .before .before .if2 .left) (c .before .step .ensures) (c .next-of2 .ensures .1)
 
--- src/machine.rt:40:1
 returns-3 : (t : ℕ) → lts.Need-returns-3 (R t) (pass-at t) pass.Post Inv-loop μ-loop
 returns-3 t c = λ hi lo. pass-end (c .before .before .before .before .before .before .seek .ensures) (c .before .before .before .before .if1 .left) (c .before .before .before .look-of .ensures) (c .before .loop .inv) hi lo (omega (arith, c .before .before .before .before .before .before .before .before .stop-of .ensures .1))
 

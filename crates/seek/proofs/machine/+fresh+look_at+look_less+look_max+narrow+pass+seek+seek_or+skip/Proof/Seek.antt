@@ -1,5 +1,6 @@
--- The needs of `seek`. Assumes nothing.
-use Prim.Native.Nat.{ℕ, _<_, _≤_, _+_, _*_, _-_}
+-- `seek::machine::seek` meets its contract: each return and turn is one law.
+-- Assumes nothing.
+use Prim.Native.Nat.{ℕ}
 use borrow.Author.Needs.{needs}
 use native.Mathlib.Omega.{arith}
 use Rattle.seek.proofs.fronts.asked_of.Reads as asked-of-reads
@@ -16,43 +17,33 @@ use Rattle.seek.proofs.State.{served, spent, stored}
 abbrev R : ℕ → lts.Claims
 R t = (front-of-reads.Asked, front-of-reads.Learnt, asked-of-reads.Asked, asked-of-reads.Learnt, serves-reads.Asked, serves-reads.Learnt, none-reads.Asked, none-reads.Learnt, fresh-below t, fresh.Post, put-front-reads.Asked, put-front-reads.Learnt)
 
--- src/machine.rt:262:9
 front-of-requires : (t : ℕ) → lts.Need-front-of-requires (R t) (seek-at t) seek.Post
 front-of-requires t c κs = search needs
 
--- src/machine.rt:263:21
 asked-of-requires : (t : ℕ) → lts.Need-asked-of-requires (R t) (seek-at t) seek.Post
 asked-of-requires t c κs = search needs
 
--- src/machine.rt:263:8
 serves-requires : (t : ℕ) → lts.Need-serves-requires (R t) (seek-at t) seek.Post
 serves-requires t c κs = search needs
 
--- src/machine.rt:264:9
 returns : (t : ℕ) → lts.Need-returns (R t) (seek-at t) seek.Post
 returns t c = served (omega arith) (c .before .before .before .before .front-of .ensures) (c .before .before .asked-of .ensures) (c .before .serves .ensures (c .if1 .taken))
 
--- src/machine.rt:267:9
 none-requires : (t : ℕ) → lts.Need-none-requires (R t) (seek-at t) seek.Post
 none-requires t c κs = search needs
 
--- src/machine.rt:267:9
 returns-2 : (t : ℕ) → lts.Need-returns-2 (R t) (seek-at t) seek.Post
 returns-2 t c = spent (c .before .if2 .taken)
 
--- src/machine.rt:269:53
 sub-fresh : (t : ℕ) → lts.Need-sub-fresh (R t) (seek-at t) seek.Post
 sub-fresh t c = search needs
 
--- src/machine.rt:269:9
 fresh-requires : (t : ℕ) → lts.Need-fresh-requires (R t) (seek-at t) seek.Post
 fresh-requires t c κs = search needs
 
--- src/machine.rt:270:5
 put-front-requires : (t : ℕ) → lts.Need-put-front-requires (R t) (seek-at t) seek.Post
 put-front-requires t c κs = search needs
 
--- src/machine.rt:249:1
 returns-3 : (t : ℕ) → lts.Need-returns-3 (R t) (seek-at t) seek.Post
 returns-3 t c = stored (omega arith) (c .before .before .before .before .if2 .left) (c .before .before .fresh .ensures) (c .put-front .ensures)
 

@@ -1,5 +1,6 @@
--- The needs of `seek_or`. Assumes nothing.
-use Prim.Native.Nat.{ℕ, _<_, _≤_, _+_, _*_, _-_}
+-- `seek::machine::seek_or` meets its contract: each return and turn is one law.
+-- Assumes nothing.
+use Prim.Native.Nat.{ℕ, _-_}
 use borrow.Author.Needs.{needs}
 use native.Mathlib.Omega.{arith}
 use Rattle.seek.proofs.fronts.better.Reads as better-reads
@@ -22,43 +23,33 @@ Inv-loop rows log items ends st₀ v t fuel stop c₀ best₀ st c best = OrInv 
 abbrev μ-loop : lts.MeasureT-loop
 μ-loop rows log items ends st₀ v t fuel stop c₀ best₀ st c best = 32 - c
 
--- src/machine.rt:28:9
 stop-of-requires : (t : ℕ) → lts.Need-stop-of-requires (R t) (seek-or-at t) seek-or.Post Inv-loop μ-loop
 stop-of-requires t c κs = search needs
 
--- src/machine.rt:29:17
 add-c : (t : ℕ) → lts.Need-add-c (R t) (seek-or-at t) seek-or.Post Inv-loop μ-loop
 add-c t c = search needs
 
--- src/machine.rt:30:9
 none-requires : (t : ℕ) → lts.Need-none-requires (R t) (seek-or-at t) seek-or.Post Inv-loop μ-loop
 none-requires t c κs = search needs
 
--- src/machine.rt:31:5
 loop-holds : (t : ℕ) → lts.Need-loop-holds (R t) (seek-or-at t) seek-or.Post Inv-loop μ-loop
 loop-holds t c = or-start (c .none .ensures)
 
--- src/machine.rt:32:13
 seek-requires : (t : ℕ) → lts.Need-seek-requires (R t) (seek-or-at t) seek-or.Post Inv-loop μ-loop
 seek-requires t c κs = search needs
 
--- src/machine.rt:33:9
 better-requires : (t : ℕ) → lts.Need-better-requires (R t) (seek-or-at t) seek-or.Post Inv-loop μ-loop
 better-requires t c κs = search needs
 
--- src/machine.rt:34:9
 next-of-requires : (t : ℕ) → lts.Need-next-of-requires (R t) (seek-or-at t) seek-or.Post Inv-loop μ-loop
 next-of-requires t c κs = search needs
 
--- src/machine.rt:31:5
 loop-less : (t : ℕ) → lts.Need-loop-less (R t) (seek-or-at t) seek-or.Post Inv-loop μ-loop
 loop-less t c = search needs
 
--- src/machine.rt:31:5
 loop-again : (t : ℕ) → lts.Need-loop-again (R t) (seek-or-at t) seek-or.Post Inv-loop μ-loop
 loop-again t c = or-turn (c .before .before .before .before .before .loop .inv) (omega (arith, c .before .before .before .before .before .before .before .stop-of .ensures .1)) (c .before .before .seek .ensures) (c .before .better .ensures) (c .next-of .ensures .1)
 
--- src/machine.rt:15:1
 returns : (t : ℕ) → lts.Need-returns (R t) (seek-or-at t) seek-or.Post Inv-loop μ-loop
 returns t c = λ k. or-end (c .before .loop .inv) (omega (arith, c .before .before .before .stop-of .ensures .1)) k
 

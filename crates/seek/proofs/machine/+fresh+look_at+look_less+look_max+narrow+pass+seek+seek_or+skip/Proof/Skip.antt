@@ -1,7 +1,7 @@
--- The needs of `skip`. Assumes nothing.
-use Prim.Native.Nat.{ℕ, _<_, _≤_, _+_, _*_, _-_}
+-- `seek::machine::skip` meets its contract: each return and turn is one law.
+-- Assumes nothing.
+use Prim.Native.Nat.{ℕ, _-_}
 use borrow.Author.Needs.{needs}
-use native.Mathlib.Omega.{arith}
 use Rattle.seek.proofs.fronts.at.Reads as at-reads
 use Rattle.seek.proofs.fronts.none.Reads as none-reads
 use Rattle.seek.proofs.machine.look_at.Reads as look-at
@@ -21,63 +21,48 @@ Inv-loop rows log items ends st₀ v t fuel from₀ st from = SkipInv rows (sour
 abbrev μ-loop : lts.MeasureT-loop
 μ-loop rows log items ends st₀ v t fuel from₀ st from = 65536 - from
 
--- src/machine.rt:195:5
 loop-holds : (t : ℕ) → lts.Need-loop-holds (R t) (skip-at t) skip.Post Inv-loop μ-loop
 loop-holds t c = skip-start
 
--- src/machine.rt:196:13
 look-at-requires : (t : ℕ) → lts.Need-look-at-requires (R t) (skip-at t) skip.Post Inv-loop μ-loop
 look-at-requires t c κs = search needs
 
--- src/machine.rt:198:13
 none-requires : (t : ℕ) → lts.Need-none-requires (R t) (skip-at t) skip.Post Inv-loop μ-loop
 none-requires t c κs = search needs
 
--- src/machine.rt:198:13
 returns : (t : ℕ) → lts.Need-returns (R t) (skip-at t) skip.Post Inv-loop μ-loop
 returns t c = λ k. skip-gone (c .before .before .before .before .before .before .loop .inv) (c .before .before .before .look-at .ensures) (c .before .if1 .taken) (c .none .ensures) k
 
--- src/machine.rt:201:13
 at-requires : (t : ℕ) → lts.Need-at-requires (R t) (skip-at t) skip.Post Inv-loop μ-loop
 at-requires t c κs = search needs
 
--- src/machine.rt:201:13
 returns-2 : (t : ℕ) → lts.Need-returns-2 (R t) (skip-at t) skip.Post Inv-loop μ-loop
 returns-2 t c = λ k. skip-good (c .before .before .before .before .before .before .before .before .loop .inv) (c .before .before .before .before .before .look-at .ensures) (c .before .before .before .if1 .left) (c .before .if2 .taken) (c .at .ensures) k
 
--- src/machine.rt:205:13
 none-requires-2 : (t : ℕ) → lts.Need-none-requires-2 (R t) (skip-at t) skip.Post Inv-loop μ-loop
 none-requires-2 t c κs = search needs
 
--- src/machine.rt:205:13
 returns-3 : (t : ℕ) → lts.Need-returns-3 (R t) (skip-at t) skip.Post Inv-loop μ-loop
 returns-3 t c = λ k. skip-bad (c .before .before .before .before .before .before .before .before .before .loop .inv) (c .before .before .before .before .before .before .look-at .ensures) (c .before .before .before .before .if1 .left) (c .before .before .if2 .left) (inl (c .before .if3 .taken)) k
 
--- src/machine.rt:208:13
 none-requires-3 : (t : ℕ) → lts.Need-none-requires-3 (R t) (skip-at t) skip.Post Inv-loop μ-loop
 none-requires-3 t c κs = search needs
 
--- src/machine.rt:208:13
 returns-4 : (t : ℕ) → lts.Need-returns-4 (R t) (skip-at t) skip.Post Inv-loop μ-loop
 returns-4 t c = λ k. skip-bad (c .before .before .before .before .before .before .before .before .before .before .loop .inv) (c .before .before .before .before .before .before .before .look-at .ensures) (c .before .before .before .before .before .if1 .left) (c .before .before .before .if2 .left) (inr (c .before .if4 .taken)) k
 
--- src/machine.rt:210:16
 add-from : (t : ℕ) → lts.Need-add-from (R t) (skip-at t) skip.Post Inv-loop μ-loop
 add-from t c = search needs
 
--- src/machine.rt:195:5
 loop-less : (t : ℕ) → lts.Need-loop-less (R t) (skip-at t) skip.Post Inv-loop μ-loop
 loop-less t c = search needs
 
--- src/machine.rt:195:5
 loop-again : (t : ℕ) → lts.Need-loop-again (R t) (skip-at t) skip.Post Inv-loop μ-loop
 loop-again t c = skip-turn (c .before .before .before .before .before .before .before .before .before .loop .inv) (c .before .before .before .before .before .before .look-at .ensures) (c .before .before .before .before .if1 .left) (c .before .before .if2 .left)
 
--- src/machine.rt:212:5
 none-requires-4 : (t : ℕ) → lts.Need-none-requires-4 (R t) (skip-at t) skip.Post Inv-loop μ-loop
 none-requires-4 t c κs = search needs
 
--- src/machine.rt:181:1
 returns-5 : (t : ℕ) → lts.Need-returns-5 (R t) (skip-at t) skip.Post Inv-loop μ-loop
 returns-5 t c = λ k. skip-out (c .before .before .loop .inv) (c .before .loop-test .left) (c .none4 .ensures) k
 

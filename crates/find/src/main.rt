@@ -1,0 +1,101 @@
+// The finder as a program: reads a pattern, a line feed and a log from standard input, and prints the sheet.
+use libc::STDIN_FILENO;
+use libc::STDOUT_FILENO;
+use sheet::Taken;
+ghost use mathlib.Core.Path.{_≡_};
+ghost use lib.ListN.{length, take};
+
+// What a turn of reading gave: a piece, taken in; the end of the input; or a failure.
+enum Turn {
+    More(Taken),
+    End,
+    Failed,
+}
+
+// What reading gave.
+enum Input {
+    Read(Taken),
+    Failed,
+}
+
+// The first n elements; all where they are fewer.
+fn first(s: &[u8], n: usize) -> &[u8]
+    ensures { λ r. ⌜ now r ≡ take n (now (s .entry)) ⌝ }
+{
+    if n < s.len() { &s[..n] } else { s }
+}
+
+// Reads once, and takes in what came.
+fn read_piece(t: Taken, pattern: &mut [u8], log: &mut [u8]) -> Turn {
+    let mut piece = io::large_buffer();
+    let got = libc::read(STDIN_FILENO, &mut piece);
+    if got < 0 {
+        return Turn::Failed;
+    }
+    if got == 0 {
+        return Turn::End;
+    }
+    let n = io::count(got, &piece);
+    Turn::More(sheet::take_piece(&piece[..n], t, pattern, log))
+}
+
+// Reads standard input to its end. The turns are counted down from a number that no run uses up.
+fn read_all(pattern: &mut [u8], log: &mut [u8]) -> Input {
+    let mut t = Taken {
+        ended: false,
+        pattern: 0,
+        log: 0,
+    };
+    let mut turns = u64::MAX;
+    while 0 < turns {
+        match read_piece(t, pattern, log) {
+            Turn::More(next) => {
+                t = next;
+                turns -= 1;
+            }
+            Turn::End => {
+                return Input::Read(t);
+            }
+            Turn::Failed => {
+                return Input::Failed;
+            }
+        }
+    }
+    Input::Failed
+}
+
+// Searches and writes the sheet, and gives its length.
+fn answer(pattern: &[u8], log: &[u8], cells: &mut [u32], out: &mut [u8]) -> usize {
+    let f = finder::fill(pattern, log, cells, 0);
+    sheet::write_sheet(f, log, cells, out)
+}
+
+// Room for every sheet: a log of 61,440 bytes has at most as many lines, a search no more answers than lines, and a printed
+// line of an answer at most 12 bytes.
+fn paper() -> [u8; 800000]
+    ensures { λ r. ⌜ 800000 ≡ length r ⌝ }
+{
+    [0; 800000]
+}
+
+// Prints the sheet. Two cells for each answer.
+fn print(pattern: &[u8], log: &[u8]) {
+    let mut cells = [0u32; 122880];
+    let mut out = paper();
+    let n = answer(pattern, log, &mut cells, &mut out);
+    io::write_all(STDOUT_FILENO, first(&out, n));
+}
+
+// Keeps one byte more of pattern and log than are accepted, so that longer ones are refused as if they were whole.
+fn main() {
+    let mut pattern = [0u8; 1025];
+    let mut log = [0u8; 61441];
+    match read_all(&mut pattern, &mut log) {
+        Input::Read(t) => {
+            print(first(&pattern, t.pattern), first(&log, t.log));
+        }
+        Input::Failed => {
+            os::fail(b"standard input");
+        }
+    }
+}

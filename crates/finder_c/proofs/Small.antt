@@ -1,0 +1,139 @@
+-- The numbers of a result fit their bits. Assumes nothing.
+use Prim.Native.Nat.{ℕ, zero, suc, _≤_}
+use mathlib.Core.Path.{_≡_, refl, sym, ap, _∙_}
+use mathlib.Core.Bool.{Bool, true, false, cond}
+use mathlib.Core.List.{List, []}
+use mathlib.Core.Option.{Option, none, some}
+use lib.ListN.{length, drop, length-take, length-drop}
+use lib.Dec.{eqb}
+use borrow.Author.Tests.{eqb-true}
+use native.Mathlib.Omega.{arith}
+use Rattle.stretches.specs.Stretch.{Stretch, Op, Or, And, Row, Then, Less, Max, answers}
+use Rattle.stretches.specs.Front.{Front, None, At, nth}
+use Rattle.stretches.specs.Taking as algorithm
+use Rattle.stretches.specs.Taking.{begun, taking}
+use Rattle.stretches.proofs.Steps.{rising-length}
+use Rattle.stretches.proofs.Taking.{nth-in, or-taken, and-taken}
+use Rattle.meaning.specs.declared.Filled.{Filled}
+use Rattle.meaning.specs.Meaning.{apply}
+use Rattle.meaning.specs.Filling.{pairsIn, written}
+use Rattle.meaning.specs.Finding.{filling}
+use Rattle.meaning.specs.Lent.{listsOf, operatorOf, miscalled, mistaken, miscut, disordered}
+use Rattle.meaning.proofs.Tree.{AllFine, fine-answers}
+use Rattle.meaning.proofs.Bounds.{sized, few-written}
+use Rattle.lists.specs.declared.Taken.{Taken}
+use Rattle.lists.specs.Refusals.{lowest, listsRefusal, takingRefusal}
+use Rattle.lists.specs.Filling.{listAnswers, walked, notFilled, fillResult}
+use Rattle.lists.specs.Taking.{takenBy, takenOf, given, notTaken, takeResult}
+use Rattle.lists.proofs.Ordering.{fine-lists}
+use Rattle.lists.proofs.Accepting.{accepted}
+
+-- ── Over a pattern and a log ──
+
+-- of a filling call
+pub filling-small : (pattern log : List ℕ) (f : ℕ) (cells : List ℕ) (r : Filled) → r ≡ filling pattern log f cells → (r .number ≤ 9) × (r .place ≤ 1024) × (r .count ≤ 65536)
+filling-small pattern log f cells r e =
+    let s = sized pattern log in (
+      omega (arith, ap (λ (x : Filled). x .number) e, s .refusal .number),
+      omega (arith, ap (λ (x : Filled). x .place) e, s .refusal .place),
+      omega (arith, ap (λ (x : Filled). x .count) e, few-written pattern log f cells),
+    )
+
+-- ── Over lent lists ──
+
+-- a refusal's number
+lowest-small : (wrong : Bool) (items ends : List ℕ) → lowest wrong items ends ≤ 8
+lowest-small true items ends = omega arith
+lowest-small false items ends = go (miscut items ends) (disordered (listsOf items ends))
+  where
+    go : (a b : Bool) → cond a 7 (cond b 8 0) ≤ 8
+    go true b = omega arith
+    go false true = omega arith
+    go false false = omega arith
+
+answers-few : (o : Option Op) (ls : List (List Stretch)) → AllFine 65536 ls → length (apply o [] ls) ≤ 65536
+answers-few none ls f = omega arith
+answers-few (some o) ls f = let g = fine-answers 65536 o ls f in rising-length 65536 (answers o ls) (g .rising) (g .sound) (g .below)
+
+written-few : (l : List Stretch) (f : ℕ) (cells : List ℕ) → length (written l f cells) ≤ length l
+written-few l f cells = omega (arith, length-take (pairsIn cells) (drop f l), length-drop f l)
+
+-- of a filling call
+pub lists-small : (op k : ℕ) (items ends cells : List ℕ) (f : ℕ) (r : Filled) → r ≡ fillResult op k items ends cells f → (r .number ≤ 9) × (r .place ≤ 1024) × (r .count ≤ 65536)
+unfolding fillResult listsRefusal
+lists-small op k items ends cells f r e = go (eqb (lowest (miscalled op k ends) items ends) 0) refl e
+  where
+    n : ℕ
+    n = lowest (miscalled op k ends) items ends
+
+    l : List Stretch
+    l = listAnswers op k items ends
+
+    go : (b : Bool) → eqb (lowest (miscalled op k ends) items ends) 0 ≡ b → r ≡ cond b (walked (listAnswers op k items ends) cells f) (notFilled (lowest (miscalled op k ends) items ends))
+        → (r .number ≤ 9) × (r .place ≤ 1024) × (r .count ≤ 65536)
+    go true i x =
+        let a = accepted (miscalled op k ends) items ends (eqb-true (lowest (miscalled op k ends) items ends) 0 i) in (
+          omega (arith, ap (λ (y : Filled). y .number) x),
+          omega (arith, ap (λ (y : Filled). y .place) x),
+          omega (arith, ap (λ (y : Filled). y .count) x, written-few (listAnswers op k items ends) f cells, answers-few (operatorOf op k) (listsOf items ends) (fine-lists (listsOf items ends) (a .order))),
+        )
+    go false i x = (
+      omega (arith, ap (λ (y : Filled). y .number) x, lowest-small (miscalled op k ends) items ends),
+      omega (arith, ap (λ (y : Filled). y .place) x),
+      omega (arith, ap (λ (y : Filled). y .count) x),
+    )
+
+-- the other operators take nothing
+idle : (ls : List (List Stretch)) (f : algorithm.Taken → algorithm.Taken) → ((s : algorithm.Taken) → f s ≡ s) → (t : ℕ → algorithm.Taken) → t 0 ≡ f (begun ls) → ((p : ℕ) → t (suc p) ≡ f (t p)) → (p : ℕ) → t p .answer ≡ None
+idle ls f h t z s zero = ap (λ (x : algorithm.Taken). x .answer) (z ∙ h (begun ls))
+idle ls f h t z s (suc p) = ap (λ (x : algorithm.Taken). x .answer) (s p ∙ h (t p)) ∙ idle ls f h t z s p
+
+-- an answer that is taken ends below 65,536
+taken-in : (o : Op) (ls : List (List Stretch)) → AllFine 65536 ls → (p : ℕ) (x : Stretch) → taking o ls p .answer ≡ At x → (x .start ≤ 65535) × (x .end ≤ 65535)
+taken-in o ls f p x e = by o e
+  where
+    fits : (o : Op) → nth (answers o ls) p ≡ At x → (x .start ≤ 65535) × (x .end ≤ 65535)
+    fits o k =
+        let g = fine-answers 65536 o ls f in
+        let m = nth-in (answers o ls) p x k in
+        (omega (arith, g .sound (x .start) (x .end) m, g .below (x .start) (x .end) m), omega (arith, g .below (x .start) (x .end) m))
+
+    never : None ≡ At x → (x .start ≤ 65535) × (x .end ≤ 65535)
+    never k = let z : _≡_ {A = ℕ} 0 1 = cc in absurd (omega arith)
+
+    by : (o : Op) → taking o ls p .answer ≡ At x → (x .start ≤ 65535) × (x .end ≤ 65535)
+    by Or k = fits Or (sym (ap (λ (t : algorithm.Taken). t .answer) (or-taken ls (f .rising) (f .sound) p)) ∙ k)
+    by And k = fits And (sym (and-taken ls (f .rising) (f .sound) p) ∙ k)
+    by Row k = never (sym (idle ls (λ s. s) (λ s. refl) (taking Row ls) refl (λ p. refl) p) ∙ k)
+    by Then k = never (sym (idle ls (λ s. s) (λ s. refl) (taking Then ls) refl (λ p. refl) p) ∙ k)
+    by Less k = never (sym (idle ls (λ s. s) (λ s. refl) (taking Less ls) refl (λ p. refl) p) ∙ k)
+    by (Max m b) k = never (sym (idle ls (λ s. s) (λ s. refl) (taking (Max m b) ls) refl (λ p. refl) p) ∙ k)
+
+taken-by : (o : Option Op) (ls : List (List Stretch)) → AllFine 65536 ls → (p : ℕ) (g : Front) → takenBy o ls p .answer ≡ g → (given g .start ≤ 65535) × (given g .end ≤ 65535)
+taken-by o ls f p None e = (omega arith, omega arith)
+taken-by none ls f p (At x) e = let z : _≡_ {A = ℕ} 0 1 = cc in absurd (omega arith)
+taken-by (some o) ls f p (At x) e = taken-in o ls f p x e
+
+given-number : (g : Front) → given g .number ≡ 0
+given-number None = refl
+given-number (At x) = refl
+
+-- of a taking call
+pub taking-small : (op : ℕ) (items ends counts : List ℕ) (p : ℕ) (r : Taken) → r ≡ takeResult op items ends counts p → (r .number ≤ 9) × (r .start ≤ 65535) × (r .end ≤ 65535)
+unfolding takeResult takingRefusal
+taking-small op items ends counts p r e = go (eqb (lowest (mistaken op ends counts) items ends) 0) refl e
+  where
+    go : (b : Bool) → eqb (lowest (mistaken op ends counts) items ends) 0 ≡ b → r ≡ cond b (given (takenOf op items ends p .answer)) (notTaken (lowest (mistaken op ends counts) items ends))
+        → (r .number ≤ 9) × (r .start ≤ 65535) × (r .end ≤ 65535)
+    go true i x =
+        let a = accepted (mistaken op ends counts) items ends (eqb-true (lowest (mistaken op ends counts) items ends) 0 i) in
+        let h = taken-by (operatorOf op 0) (listsOf items ends) (fine-lists (listsOf items ends) (a .order)) p (takenOf op items ends p .answer) refl in (
+          omega (arith, ap (λ (y : Taken). y .number) x, given-number (takenOf op items ends p .answer)),
+          omega (arith, ap (λ (y : Taken). y .start) x, h .0),
+          omega (arith, ap (λ (y : Taken). y .end) x, h .1),
+        )
+    go false i x = (
+      omega (arith, ap (λ (y : Taken). y .number) x, lowest-small (mistaken op ends counts) items ends),
+      omega (arith, ap (λ (y : Taken). y .start) x),
+      omega (arith, ap (λ (y : Taken). y .end) x),
+    )

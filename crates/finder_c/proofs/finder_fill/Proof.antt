@@ -1,0 +1,22 @@
+-- `finder_c::finder_fill` meets its contract: the numbers fit their bits, and the rest is what `finder::fill` ensures. Assumes nothing.
+use mathlib.Core.Path.{ap, _∙_}
+use Rattle.finder_c.specs.Packing.{packedFill}
+use Rattle.finder_c.proofs.Small.{filling-small}
+use borrow.Author.Needs.{needs}
+use Rattle.finder_c.proofs.finder_fill.Statement.{statement}
+use Rattle.finder_c.proofs.finder_fill.Tie as tie
+
+fill-requires : tie.Need-fill-requires
+fill-requires c κs = search needs
+
+packed-requires : tie.Need-packed-requires
+packed-requires c κs = filling-small (c .before .before .before .before .before .before .before .args .pattern .now) (c .before .before .before .before .before .before .before .args .log .now) (c .before .before .before .before .before .before .before .args .from) (c .before .before .before .before .before .before .before .args .cells .now) (c .before .before .fill .result) (c .before .before .fill .ensures .result)
+
+same-length : tie.Need-same-length
+same-length c = search needs
+
+returns : tie.Need-returns
+returns c = (c .packed .ensures ∙ ap packedFill (c .before .before .before .fill .ensures .result), c .before .before .before .fill .ensures .memory)
+
+pub finder-fill-spec : {M : Type 1} → statement M
+finder-fill-spec = tie.close (tie.spec fill-requires packed-requires same-length returns)

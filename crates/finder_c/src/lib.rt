@@ -1,0 +1,80 @@
+// The calls from C: numbers and slices in, one packed number out. include/finder.h declares them.
+use lists::Taken;
+use meaning::Filled;
+ghost use mathlib.Core.Path.{_≡_};
+ghost use Prim.Native.Nat.{_≤_};
+ghost use Rattle.meaning.specs.Filling.{filled};
+ghost use Rattle.meaning.specs.Finding.{listOf, filling};
+ghost use Rattle.lists.specs.Filling.{fillResult, fillCells};
+ghost use Rattle.lists.specs.Taking.{takeResult, takeCells};
+ghost use Rattle.finder_c.specs.Packing.{packedFill, packedTaken, bit};
+
+// The bit of a flag.
+fn flag(b: bool) -> u64
+    ensures { λ r. ⌜ (r ≡ bit b) × (r ≤ 1) ⌝ }
+{
+    if b { 1 } else { 0 }
+}
+
+// The result of a filling call in one number.
+fn packed(r: Filled) -> u64
+    requires { ⌜ (r .number ≤ 9) × (r .place ≤ 1024) × (r .count ≤ 65536) ⌝ }
+    ensures { λ n. ⌜ n ≡ packedFill r ⌝ }
+{
+    let more = flag(r.more);
+    let low = r.number as u64 + 256 * more;
+    low + 65536 * (r.place as u64) + 4294967296 * (r.count as u64)
+}
+
+// The result of a taking call in one number.
+fn packed_taken(r: Taken) -> u64
+    requires { ⌜ (r .number ≤ 9) × (r .start ≤ 65535) × (r .end ≤ 65535) ⌝ }
+    ensures { λ n. ⌜ n ≡ packedTaken r ⌝ }
+{
+    let found = flag(r.found);
+    let low = r.number as u64 + 256 * found;
+    low + 65536 * (r.start as u64) + 4294967296 * (r.end as u64)
+}
+
+// The stretches of a pattern in a log, from number `from` on, into the cells.
+#[no_mangle]
+pub extern "C" fn finder_fill(pattern: &[u8], log: &[u8], cells: &mut [u32], from: u64) -> u64
+    ensures { λ r. ⌜ r ≡ packedFill (filling (now (pattern .entry)) (now (log .entry)) from (now (cells .entry))) ⌝ }
+    ensures { λ r. ⌜ now (cells .exit) ≡ filled (listOf (now (pattern .entry)) (now (log .entry))) from (now (cells .entry)) ⌝ }
+{
+    let r = finder::fill(pattern, log, cells, from as usize);
+    packed(r)
+}
+
+// The stretches of an operator over lent lists, from number `from` on, into the cells.
+#[no_mangle]
+pub extern "C" fn finder_lists_fill(
+    op: u32,
+    k: u32,
+    items: &[u32],
+    ends: &[u32],
+    cells: &mut [u32],
+    from: u64,
+) -> u64
+    ensures { λ r. ⌜ r ≡ packedFill (fillResult op k (now (items .entry)) (now (ends .entry)) (now (cells .entry)) from) ⌝ }
+    ensures { λ r. ⌜ now (cells .exit) ≡ fillCells op k (now (items .entry)) (now (ends .entry)) (now (cells .entry)) from ⌝ }
+{
+    let r = lists::fill(op, k, items, ends, cells, from as usize);
+    packed(r)
+}
+
+// Answer number `number` of or or and over lent lists, and the items taken of each list into the counts.
+#[no_mangle]
+pub extern "C" fn finder_lists_take(
+    op: u32,
+    items: &[u32],
+    ends: &[u32],
+    counts: &mut [u32],
+    number: u64,
+) -> u64
+    ensures { λ r. ⌜ r ≡ packedTaken (takeResult op (now (items .entry)) (now (ends .entry)) (now (counts .entry)) number) ⌝ }
+    ensures { λ r. ⌜ now (counts .exit) ≡ takeCells op (now (items .entry)) (now (ends .entry)) (now (counts .entry)) number ⌝ }
+{
+    let r = lists::take(op, items, ends, counts, number as usize);
+    packed_taken(r)
+}

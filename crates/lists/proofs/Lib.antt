@@ -1,0 +1,9 @@
+pub mod Cutting
+pub mod Ordering
+pub mod Laying
+pub mod Queues
+pub mod Tops
+pub mod Turns
+pub mod Runs
+pub mod Accepting
+pub mod Fillings

@@ -1,0 +1,20 @@
+-- `better` meets its contract: each return is the definition at the test that led there. Assumes nothing.
+use borrow.Author.Needs.{needs}
+use mathlib.Core.Path.{sym, _∙_}
+use Rattle.lists.specs.Queue.{betterOf}
+use Rattle.lists.proofs.queue.better.Statement.{statement}
+use Rattle.lists.proofs.queue.better.Tie as tie
+
+goes-first-requires : tie.Need-goes-first-requires
+goes-first-requires c κs = search needs
+
+returns : tie.Need-returns
+unfolding betterOf
+returns c = simp (sym (c .before .goes-first .ensures) ∙ c .if1 .taken)
+
+returns-2 : tie.Need-returns-2
+unfolding betterOf
+returns-2 c = simp (sym (c .before .goes-first .ensures) ∙ c .if1 .left)
+
+pub better-spec : {M : Type 1} → statement M
+better-spec = tie.close (tie.spec goes-first-requires returns returns-2)

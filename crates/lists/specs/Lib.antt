@@ -1,0 +1,5 @@
+pub mod Refusals
+pub mod Filling
+pub mod Taking
+pub mod Table
+pub mod Queue

@@ -1,0 +1,5 @@
+pub mod Decimals
+pub mod Placing
+pub mod Printed
+pub mod Written
+pub mod Keeping

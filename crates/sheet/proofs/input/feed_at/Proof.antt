@@ -1,0 +1,56 @@
+-- `sheet::input::feed_at` meets its contract. The loop's invariant: no line feed is before place i.
+-- Assumes nothing.
+use Prim.Native.Nat.{_+_, _-_, _≤_}
+use mathlib.Core.Path.{_≡_}
+use native.Mathlib.Omega.{arith}
+use lib.ListN.{length, drop}
+use Rattle.sheet.specs.Input.{patternOf}
+use Rattle.sheet.proofs.Keeping.{feed-here, feed-later, feed-none}
+use borrow.Author.Needs.{needs}
+use Rattle.sheet.proofs.input.feed_at.Statement.{statement}
+use Rattle.sheet.proofs.input.feed_at.Tie as tie
+
+abbrev Inv-loop : tie.InvT-loop
+Inv-loop piece i₀ i = (i ≤ length piece) × (length (patternOf piece) ≡ i + length (patternOf (drop i piece)))
+
+abbrev μ-loop : tie.MeasureT-loop
+μ-loop piece i₀ i = length piece - i
+
+loop-holds : tie.Need-loop-holds Inv-loop μ-loop
+loop-holds c = search needs
+
+shared-slice-read-if1 : tie.Need-shared-slice-read-if1 Inv-loop μ-loop
+shared-slice-read-if1 c = search needs
+
+returns : tie.Need-returns Inv-loop μ-loop
+returns c =
+    let l = c .before .before .before .loop in
+    omega (arith, feed-here (c .before .before .before .before .args .piece .now) (l .i) (c .before .before .loop-test .taken) (c .if1 .taken))
+
+add-i : tie.Need-add-i Inv-loop μ-loop
+add-i c = search needs
+
+loop-less : tie.Need-loop-less Inv-loop μ-loop
+loop-less c = search needs
+
+loop-again : tie.Need-loop-again Inv-loop μ-loop
+loop-again c =
+    let l = c .before .before .before .loop in
+    omega (arith, feed-later (c .before .before .before .before .args .piece .now) (l .i) (c .before .before .loop-test .taken) (c .if1 .left))
+
+returns-2 : tie.Need-returns-2 Inv-loop μ-loop
+returns-2 c = omega (arith, feed-none (c .before .before .args .piece .now) (c .before .loop .i) (c .loop-test .left))
+
+pub feed-at-spec : {M : Type 1} → statement M
+feed-at-spec =
+    tie.close
+    (tie.spec
+    Inv-loop
+    μ-loop
+    loop-holds
+    shared-slice-read-if1
+    returns
+    add-i
+    loop-less
+    loop-again
+    returns-2)

@@ -1,0 +1,65 @@
+-- `sheet::write_refused` meets its contract.
+-- Assumes nothing.
+use native.Mathlib.Omega.{arith}
+use Rattle.sheet.specs.Sheet.{refusedSheet}
+use Rattle.sheet.proofs.Placing.{laid-not}
+use Rattle.sheet.proofs.Written.{length-refused, digits-refused, refused-laid}
+use borrow.Author.Needs.{needs}
+use Rattle.sheet.proofs.write_refused.Statement.{statement}
+use Rattle.sheet.proofs.write_refused.Tie as tie
+
+digits-requires : tie.Need-digits-requires
+digits-requires c κs = search needs
+
+digits-requires-2 : tie.Need-digits-requires-2
+digits-requires-2 c κs = search needs
+
+add-need : tie.Need-add-need
+add-need c = search needs
+
+add-need-2 : tie.Need-add-need-2
+add-need-2 c = search needs
+
+returns : tie.Need-returns
+returns c =
+    let a = c .before .before .before .before .args in
+    laid-not (refusedSheet (a .number) (a .place)) (a .out .now) (omega (arith, digits-refused (a .number) (a .place)))
+
+put-letter-requires : tie.Need-put-letter-requires
+put-letter-requires c κs = omega arith
+
+put-field-requires : tie.Need-put-field-requires
+put-field-requires c κs =
+    let a = c .before .before .before .before .before .before .before .before .before .args in
+    omega (arith, length-refused (a .number) (a .place), digits-refused (a .number) (a .place))
+
+put-field-requires-2 : tie.Need-put-field-requires-2
+put-field-requires-2 c κs =
+    let a = c .before .before .before .before .before .before .before .before .before .before .before .before .before .args in
+    omega (arith, length-refused (a .number) (a .place), digits-refused (a .number) (a .place))
+
+same-length : tie.Need-same-length
+same-length c = search needs
+
+returns-2 : tie.Need-returns-2
+returns-2 c =
+    let a = c .before .before .before .before .before .before .before .before .before .before .before .before .before .before .before .before .args in
+    let l = c .before .before .before .before .before .before .before .before .before .before .put-letter in
+    let p = c .before .before .before .before .before .before .put-field in
+    let q = c .before .before .put-field2 in
+    refused-laid (a .number) (a .place) (a .out .now) (l .last .0) (p .last .0) (q .last .0) (p .result) (q .result) (omega (arith, digits-refused (a .number) (a .place))) (l .ensures) (p .ensures) (q .ensures)
+
+pub write-refused-spec : {M : Type 1} → statement M
+write-refused-spec =
+    tie.close
+    (tie.spec
+    digits-requires
+    digits-requires-2
+    add-need
+    add-need-2
+    returns
+    put-letter-requires
+    put-field-requires
+    put-field-requires-2
+    same-length
+    returns-2)

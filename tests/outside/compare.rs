@@ -1,0 +1,150 @@
+//! One comparison of a call with the reference: result, every lent cell, and cells around them that were not lent.
+
+use crate::calls::Calls;
+use crate::inputs::Rng;
+use crate::lent::{self, Taken};
+use crate::reference::{self, List, Refusal, Stretch};
+
+/// Nothing, or the report of a difference.
+pub type Checked = Result<(), String>;
+
+/// A text for a report, cut if it is long.
+pub fn show(text: &[u8]) -> String {
+    let cut = &text[..text.len().min(400)];
+    format!("{} bytes \"{}\"{}", text.len(), cut.escape_ascii(), if cut.len() < text.len() { ".." } else { "" })
+}
+
+/// Cells on both sides of the lent ones.
+const GUARD: usize = 3;
+
+/// Runs `call` and `model` on equal cells with random contents; the results and all cells must agree.
+fn same(rng: &mut Rng, cells: usize, call: impl Fn(&mut [u32]) -> u64, model: impl Fn(&mut [u32]) -> u64) -> Checked {
+    let before: Vec<u32> = (0..cells + 2 * GUARD).map(|_| rng.next() as u32).collect();
+    let (mut got, mut wanted) = (before.clone(), before);
+    let given = call(&mut got[GUARD..GUARD + cells]);
+    let due = model(&mut wanted[GUARD..GUARD + cells]);
+    if given != due {
+        return Err(format!("result {given:#x}, should be {due:#x}"));
+    }
+    match (0..got.len()).find(|&i| got[i] != wanted[i]) {
+        Some(i) => Err(format!("cell {} holds {}, should hold {}", i as isize - GUARD as isize, got[i], wanted[i])),
+        None => Ok(()),
+    }
+}
+
+/// The filling call over a pattern and a log.
+pub fn fill(
+    calls: &dyn Calls,
+    rng: &mut Rng,
+    pattern: &[u8],
+    log: &[u8],
+    answers: &Result<List, Refusal>,
+    cells: usize,
+    from: u64,
+) -> Checked {
+    let call = |lent: &mut [u32]| calls.fill(pattern, log, lent, from);
+    let report = |what| format!("{what}\n  pattern {}\n  log {}\n  cells {cells}, from {from}", show(pattern), show(log));
+    same(rng, cells, call, |lent| reference::fill(answers, lent, from)).map_err(report)
+}
+
+/// Lists as they are lent to a call, with operator and k.
+pub struct Lists<'a> {
+    pub op: u32,
+    pub k: u32,
+    pub items: &'a [u32],
+    pub ends: &'a [u32],
+}
+
+impl Lists<'_> {
+    fn show(&self) -> String {
+        let cut = &self.items[..self.items.len().min(60)];
+        format!("operator {}, k {}, ends {:?}, {} items {cut:?}", self.op, self.k, self.ends, self.items.len())
+    }
+}
+
+/// The filling call over lists.
+pub fn lists_fill(calls: &dyn Calls, rng: &mut Rng, lent: &Lists, answers: &Result<List, Refusal>, cells: usize, from: u64) -> Checked {
+    let call = |cells: &mut [u32]| calls.lists_fill(lent.op, lent.k, lent.items, lent.ends, cells, from);
+    let report = |what| format!("{what}\n  {}\n  cells {cells}, from {from}", lent.show());
+    same(rng, cells, call, |cells| reference::fill(answers, cells, from)).map_err(report)
+}
+
+/// The taking call.
+pub fn take(calls: &dyn Calls, rng: &mut Rng, lent: &Lists, taken: &Result<Taken, Refusal>, cells: usize, number: u64) -> Checked {
+    let call = |counts: &mut [u32]| calls.lists_take(lent.op, lent.items, lent.ends, counts, number);
+    let report = |what| format!("{what}\n  {}\n  count cells {cells}, number {number}", lent.show());
+    same(rng, cells, call, |counts| lent::take(taken, counts)).map_err(report)
+}
+
+/// The whole list by the filling call, with cells enough to say "done"; or the result of a call that says something else.
+pub fn whole(calls: &dyn Calls, pattern: &[u8], log: &[u8]) -> Result<List, u64> {
+    let mut cells = vec![0; 2 * reference::lines(log).len()];
+    let result = calls.fill(pattern, log, &mut cells, 0);
+    let written = (result >> 32) as usize;
+    if result & 0xffff_ffff != 0 || 2 * written > cells.len() {
+        return Err(result);
+    }
+    Ok(cells.chunks_exact(2).take(written).map(|c| Stretch { s: c[0], e: c[1] }).collect())
+}
+
+/// What gives the answers of a pattern in a log.
+pub type Answers = fn(&[u8], &[u8]) -> Result<List, Refusal>;
+
+/// A pattern in a log, with its answers, to be compared for several cells and starts.
+pub struct Search<'a> {
+    calls: &'a dyn Calls,
+    pattern: &'a [u8],
+    log: &'a [u8],
+    by: Answers,
+    answers: Result<List, Refusal>,
+}
+
+impl<'a> Search<'a> {
+    pub fn new(calls: &'a dyn Calls, pattern: &'a [u8], log: &'a [u8], by: Answers) -> Search<'a> {
+        Search { calls, pattern, log, by, answers: by(pattern, log) }
+    }
+
+    /// The number of answers.
+    pub fn found(&self) -> usize {
+        self.answers.as_ref().map_or(0, List::len)
+    }
+
+    /// Compares the filling call; a difference is reported for a shorter log if one shows it too.
+    pub fn fill(&self, rng: &mut Rng, cells: usize, from: u64) -> Checked {
+        let differs = |log: &[u8]| fill(self.calls, &mut Rng(0), self.pattern, log, &(self.by)(self.pattern, log), cells, from);
+        let compared = fill(self.calls, rng, self.pattern, self.log, &self.answers, cells, from);
+        compared.map_err(|report| shorten(self.log, differs).err().unwrap_or(report))
+    }
+}
+
+/// Leaves out parts of a log's lines as long as `differs` still reports; at most 200 tries.
+fn shorten(log: &[u8], differs: impl Fn(&[u8]) -> Checked) -> Checked {
+    let mut kept = reference::lines(log);
+    let mut report = differs(log);
+    let (mut part, mut tries) = (kept.len().div_ceil(2), 0);
+    while part > 0 && report.is_err() {
+        let mut at = 0;
+        while at < kept.len() && tries < 200 {
+            tries += 1;
+            let fewer = [&kept[..at], &kept[(at + part).min(kept.len())..]].concat();
+            match differs(&fewer.concat()) {
+                Err(still) => (kept, report) = (fewer, Err(still)),
+                Ok(()) => at += part,
+            }
+        }
+        part /= 2;
+    }
+    report
+}
+
+/// Numbers of cells, and numbers to start from, around the ends of n answers.
+pub fn around(n: usize) -> Vec<(usize, u64)> {
+    let n64 = n as u64;
+    let mut cells = vec![0, 1, 2, 3, 4, 5, (2 * n).saturating_sub(1), 2 * n, 2 * n + 1, 2 * n + 2];
+    let mut from = vec![0, 1, 2, n64.saturating_sub(2), n64.saturating_sub(1), n64, n64 + 1, 1 << 16, 1 << 32, (1 << 63) + 1, u64::MAX];
+    from.sort();
+    from.dedup();
+    cells.sort();
+    cells.dedup();
+    cells.iter().flat_map(|&c| from.iter().map(move |&f| (c, f))).collect()
+}

@@ -1,0 +1,138 @@
+/* Hostile inputs for the three calls, meant to run under valgrind: every buffer is a heap block of exactly the size lent, and lent cells
+   are left unset, so that a read or write outside, or a branch on what was never written, is reported. */
+#include <stdio.h>
+#include <stdlib.h>
+#include <string.h>
+
+#include "finder.h"
+
+static uint64_t state = 7;
+
+static uint32_t below(uint32_t n)
+{
+    state = state * 6364136223846793005u + 1442695040888963407u;
+    return (uint32_t)(state >> 33) % n;
+}
+
+/* A heap block of exactly n bytes (valgrind gives one for 0 too). */
+static void *block(size_t n)
+{
+    void *p = malloc(n);
+    if (p == NULL) {
+        fputs("hostile: no memory\n", stderr);
+        exit(2);
+    }
+    return p;
+}
+
+static const char *const patterns[] = {
+    "", "e", "ev,", "ev,1,0", "fr,10,99", "ev,256,0", "or,31,ev,1,0", "then,2,ev,7,0,ev,9,0", "row,3,fr,0,0,fr,1,0,fr,3,0",
+    "less,and,2,ev,7,0,fr,3,0,max,2,or,2,ev,9,4,ev,12,0", "and,3,then,2,ev,7,0,ev,9,0,or,2,fr,0,4,fr,10,5,max,65535,fr,1,0",
+    "max,9,max,9,max,9,max,9,max,9,max,9,max,9,ev,1,0", "max,9,max,9,max,9,max,9,max,9,max,9,max,9,max,9,ev,1,0",
+    "and,2,less,row,2,ev,1,0,ev,7,0,ev,9,0,then,2,or,2,ev,12,1,fr,3,0,max,3,and,2,ev,1,4,ev,9,5", "or,18446744073709551616,ev,1,0"};
+
+static const char *const lines[] = {"1,4,7,3,6\n", "2,4,12,20,3,0\n", "1,5,9,0,0\n", "1,1,1,10,10\n", "2,99,255,300,10,10\n", "\n", "oops\n",
+    "1,4,7,3,6\r\n", "2,4,7,3", "99999999999999999999999999\n", "1,04,7,3,6\n", ",,,,,\n"};
+
+#define COUNT(array) ((uint32_t)(sizeof(array) / sizeof(array)[0]))
+
+/* n bytes: pieces of text from a table, then some bytes changed. */
+static uint8_t *text(const char *const *pieces, uint32_t count, size_t n)
+{
+    uint8_t *p = block(n);
+    for (size_t at = 0; at < n;) {
+        const char *piece = pieces[below(count)];
+        size_t length = strlen(piece) < n - at ? strlen(piece) : n - at;
+        if (length == 0)
+            p[at++] = '\n';
+        memcpy(p + at, piece, length);
+        at += length;
+    }
+    for (uint32_t i = below(4); n > 0 && i > 0; i--)
+        p[below((uint32_t)n)] = (uint8_t)below(256);
+    return p;
+}
+
+/* Branches on every cell that a call says it wrote. */
+static unsigned sum;
+
+static void use(const uint32_t *cells, size_t written)
+{
+    for (size_t i = 0; i < written; i++)
+        if (cells[i] > 3)
+            sum++;
+}
+
+static void over_log(void)
+{
+    const char *pattern_text = patterns[below(COUNT(patterns))];
+    size_t pattern_len = strlen(pattern_text);
+    uint8_t *pattern = block(pattern_len);
+    memcpy(pattern, pattern_text, pattern_len);
+    if (pattern_len > 0 && below(3) == 0)
+        pattern[below((uint32_t)pattern_len)] = (uint8_t)below(256);
+    if (below(12) == 0) {
+        free(pattern);
+        pattern_len = 1000 + below(60);
+        pattern = text(patterns, COUNT(patterns), pattern_len);
+    }
+    size_t log_len = below(40) == 0 ? 61430 + below(20) : below(400);
+    uint8_t *log = text(lines, COUNT(lines), log_len);
+    size_t cell_count = below(12);
+    uint32_t *cells = block(cell_count * sizeof *cells);
+    uint64_t from = below(8) == 0 ? UINT64_MAX - below(3) : below(4);
+    uint64_t result = finder_fill(pattern, pattern_len, log, log_len, cells, cell_count, from);
+    use(cells, 2 * (size_t)finder_written(result));
+    free(pattern);
+    free(log);
+    free(cells);
+}
+
+static void over_lists(void)
+{
+    static const uint32_t edges[] = {0, 1, 2, 6, 7, 31, 32, 65535, 65536, 0x7fffffff, 0x80000000, 0xfffffffe, 0xffffffff};
+    size_t list_count = below(10) == 0 ? below(40) : below(5), item_count = 0;
+    uint32_t *ends = block(list_count * sizeof *ends);
+    for (size_t i = 0; i < list_count; i++)
+        ends[i] = (uint32_t)(item_count += 2 * below(6));
+    uint32_t *items = block(item_count * sizeof *items);
+    for (size_t list = 0, i = 0; list < list_count; list++)
+        for (uint32_t at = below(6); i < ends[list]; i += 2) {
+            items[i] = at += 1 + below(3);
+            items[i + 1] = at;
+        }
+    if (list_count > 0 && below(4) == 0)
+        ends[below((uint32_t)list_count)] = edges[below(COUNT(edges))];
+    if (item_count > 0 && below(4) == 0)
+        items[below((uint32_t)item_count)] = edges[below(COUNT(edges))];
+    uint32_t op = below(12) == 0 ? edges[below(COUNT(edges))] : 1 + below(6);
+    uint32_t k = op == FINDER_MAX ? edges[below(COUNT(edges))] : below(9) == 0;
+    size_t cell_count = below(12);
+    uint32_t *cells = block(cell_count * sizeof *cells);
+    uint64_t from = below(8) == 0 ? UINT64_MAX - below(3) : below(4);
+    use(cells, 2 * (size_t)finder_written(finder_lists_fill(op, k, items, item_count, ends, list_count, cells, cell_count, from)));
+    free(cells);
+
+    size_t count_cells = list_count + below(3);
+    uint32_t *counts = block(count_cells * sizeof *counts);
+    uint64_t result = finder_lists_take(1 + below(2), items, item_count, ends, list_count, counts, count_cells, from);
+    use(counts, finder_refusal(result) == 0 ? list_count : 0);
+    free(counts);
+    free(items);
+    free(ends);
+}
+
+int main(int argc, char **argv)
+{
+    int rounds = argc > 1 ? atoi(argv[1]) : 1000;
+    for (int i = 0; i < rounds; i++) {
+        over_log();
+        over_lists();
+    }
+    if (sum == 0) {
+        puts("hostile: no call wrote anything, so nothing was tried");
+        return 1;
+    }
+    printf("hostile: %d calls, no fault\n", 3 * rounds);
+    return 0;
+}

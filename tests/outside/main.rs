@@ -1,0 +1,93 @@
+//! Compares every call of the archive with an independent reference on seeded inputs, a line for each group; a difference is reported
+//! with its input and makes the run fail. `--selftest` shows that wrong variants of the calls are caught by the same comparisons.
+
+mod calls;
+mod compare;
+mod faults;
+mod inputs;
+mod itself;
+mod lent;
+mod over_lists;
+mod over_logs;
+mod plain;
+mod quick;
+mod reference;
+
+/// The calls on trial, and the part of each group's rounds that is run (1: all, 10: a tenth).
+pub struct Trial<'a> {
+    pub calls: &'a dyn calls::Calls,
+    pub part: usize,
+}
+
+impl Trial<'_> {
+    pub fn rounds(&self, all: usize) -> usize {
+        all / self.part
+    }
+}
+
+/// The number of comparisons made, or the report of the first difference.
+pub type Outcome = Result<usize, String>;
+
+/// A group's name and what it compares.
+type Group = (&'static str, fn(&Trial) -> Outcome);
+
+/// Groups that try the calls on seeded inputs.
+const SEEDED: [Group; 9] = [
+    ("patterns", over_logs::patterns),
+    ("lines", over_logs::lines),
+    ("logs", over_logs::logs),
+    ("long logs", over_logs::long),
+    ("bounds", over_logs::bounds),
+    ("runs", over_logs::runs),
+    ("lists", over_lists::lists),
+    ("spoiled lists", over_lists::spoiled),
+    ("taking", over_lists::taking),
+];
+
+const FIXED: [Group; 3] = [("reference", itself::reference), ("document", itself::cases), ("samples", over_logs::samples)];
+
+/// Runs all groups on the archive; gives the number that failed.
+fn compare_archive() -> usize {
+    let trial = Trial { calls: &calls::Archive, part: 1 };
+    let mut failed = 0;
+    for (name, group) in FIXED.iter().chain(&SEEDED) {
+        match group(&trial) {
+            Ok(count) => println!("{name}: {count} compared, no difference"),
+            Err(report) => {
+                println!("{name}: DIFFERENCE: {report}");
+                failed += 1;
+            }
+        }
+    }
+    failed
+}
+
+/// Runs the seeded groups, shortened, on the right plain calls and on each wrong variant: the right ones must pass, each wrong one must be
+/// caught by some group, and each group must catch some. Gives the number of failures.
+fn selftest() -> usize {
+    let report = |calls: &plain::Plain, (name, group): &Group| {
+        let found = group(&Trial { calls, part: 20 }).err();
+        found.map(|report| format!("{name}: {report}"))
+    };
+    let variants = faults::variants();
+    let verbose = std::env::args().any(|arg| arg == "--verbose");
+    let mut failed = Vec::new();
+    failed.extend(SEEDED.iter().find_map(|group| report(&plain::RIGHT, group)));
+    for (fault, plain) in &variants {
+        match SEEDED.iter().find_map(|group| report(plain, group)) {
+            Some(report) if verbose => println!("{fault}: caught by {report}"),
+            Some(_) => {}
+            None => failed.push(format!("not caught: {fault}")),
+        }
+    }
+    let idle = SEEDED.iter().filter(|group| !variants.iter().any(|(_, plain)| report(plain, group).is_some()));
+    failed.extend(idle.map(|(name, _)| format!("{name} catches nothing")));
+    failed.iter().for_each(|what| println!("selftest: FAILED: {what}"));
+    println!("selftest: {} wrong variants caught, {} failures", variants.len(), failed.len());
+    failed.len()
+}
+
+fn main() {
+    let failed = if std::env::args().any(|arg| arg == "--selftest") { selftest() } else { compare_archive() };
+    std::process::exit(i32::from(failed > 0));
+}

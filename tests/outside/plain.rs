@@ -1,0 +1,51 @@
+//! The calls in plain Rust, put together from the reference in parts that a wrong variant can exchange.
+
+use crate::calls::Calls;
+use crate::lent::{self, Taken};
+use crate::quick;
+use crate::reference::{self as r, refused, Apply, List, Op, Record, Refusal, Tree, LOG_MAX};
+
+#[derive(Clone, Copy)]
+pub struct Plain {
+    pub accept: fn(&Plain, &[u8], &[u8]) -> Result<Tree, Refusal>,
+    pub pattern: fn(&[u8]) -> Result<Tree, Refusal>,
+    pub log: fn(&[u8]) -> Vec<Option<Record>>,
+    pub apply: Apply,
+    pub lists: fn(u32, u32, &[u32], &[u32]) -> Result<(Op, Vec<List>), Refusal>,
+    pub take_or: fn(&[List], u64) -> Taken,
+    pub take_and: fn(&[List], u64) -> Taken,
+    pub fill: fn(&Result<List, Refusal>, &mut [u32], u64) -> u64,
+    pub take: fn(&Result<Taken, Refusal>, &mut [u32]) -> u64,
+}
+
+/// Every part as the reference has it.
+pub const RIGHT: Plain = Plain {
+    accept: |parts, pattern, log| if log.len() > LOG_MAX { refused(1) } else { (parts.pattern)(pattern) },
+    pattern: r::read_pattern,
+    log: r::read_log,
+    apply: quick::apply,
+    lists: lent::read_lists,
+    take_or: lent::take_or_by_algorithm,
+    take_and: lent::take_and,
+    fill: r::fill,
+    take: lent::take,
+};
+
+impl Calls for Plain {
+    fn fill(&self, pattern: &[u8], log: &[u8], cells: &mut [u32], from: u64) -> u64 {
+        let answers = (self.accept)(self, pattern, log).map(|tree| r::evaluate(&tree, &(self.log)(log), self.apply));
+        (self.fill)(&answers, cells, from)
+    }
+
+    fn lists_fill(&self, op: u32, k: u32, items: &[u32], ends: &[u32], cells: &mut [u32], from: u64) -> u64 {
+        let answers = (self.lists)(op, k, items, ends).map(|(op, lists)| (self.apply)(op, k, &lists));
+        (self.fill)(&answers, cells, from)
+    }
+
+    fn lists_take(&self, op: u32, items: &[u32], ends: &[u32], counts: &mut [u32], number: u64) -> u64 {
+        let miscalled = !(1..=2).contains(&op) || counts.len() < ends.len();
+        let lists = if miscalled { refused(6) } else { (self.lists)(op, 0, items, ends) };
+        let taken = lists.map(|(op, lists)| (if op == Op::Or { self.take_or } else { self.take_and })(&lists, number));
+        (self.take)(&taken, counts)
+    }
+}
