@@ -52,10 +52,10 @@ pub fn take(op: u32, items: &[u32], ends: &[u32], counts: &mut [u32], number: us
     ensures { λ r. ⌜ r ≡ takeResult op (now (items .entry)) (now (ends .entry)) (now (counts .entry)) number ⌝ }
     ensures { λ _. ⌜ now (counts .exit) ≡ takeCells op (now (items .entry)) (now (ends .entry)) (now (counts .entry)) number ⌝ }
 {
-    let refused = taking_refusal(op, items, ends, counts);
-    if refused != 0 {
+    let wrong = taking_refusal(op, items, ends, counts);
+    if wrong != 0 {
         return Taken {
-            number: refused,
+            number: wrong,
             found: false,
             start: 0,
             end: 0,
