@@ -4,6 +4,7 @@ use libc::STDOUT_FILENO;
 use sheet::Taken;
 ghost use mathlib.Core.Path.{_≡_};
 ghost use lib.ListN.{length, take};
+ghost use Rattle.find.specs.Reading.{Turned, Gathered, Held, Prints};
 
 // What a turn of reading gave: a piece, taken in; the end of the input; or a failure.
 enum Turn {
@@ -26,7 +27,9 @@ fn first(s: &[u8], n: usize) -> &[u8]
 }
 
 // Reads once, and takes in what came.
-fn read_piece(t: Taken, pattern: &mut [u8], log: &mut [u8]) -> Turn {
+fn read_piece(t: Taken, pattern: &mut [u8], log: &mut [u8]) -> Turn
+    ensures { λ r. ⌜ Turned t (now (pattern .entry)) (now (log .entry)) r (now (pattern .exit)) (now (log .exit)) ⌝ }
+{
     let mut piece = io::large_buffer();
     let got = libc::read(STDIN_FILENO, &mut piece);
     if got < 0 {
@@ -40,7 +43,9 @@ fn read_piece(t: Taken, pattern: &mut [u8], log: &mut [u8]) -> Turn {
 }
 
 // Reads standard input to its end. The turns are counted down from a number that no run uses up.
-fn read_all(pattern: &mut [u8], log: &mut [u8]) -> Input {
+fn read_all(pattern: &mut [u8], log: &mut [u8]) -> Input
+    ensures { λ r. ⌜ Gathered r (now (pattern .exit)) (now (log .exit)) ⌝ }
+{
     let mut t = Taken {
         ended: false,
         pattern: 0,
@@ -64,12 +69,6 @@ fn read_all(pattern: &mut [u8], log: &mut [u8]) -> Input {
     Input::Failed
 }
 
-// Searches and writes the sheet, and gives its length.
-fn answer(pattern: &[u8], log: &[u8], cells: &mut [u32], out: &mut [u8]) -> usize {
-    let f = finder::fill(pattern, log, cells, 0);
-    sheet::write_sheet(f, log, cells, out)
-}
-
 // Room for every sheet: a log of 61,440 bytes has at most as many lines, a search no more answers than lines, and a printed
 // line of an answer at most 12 bytes.
 fn paper() -> [u8; 800000]
@@ -78,12 +77,22 @@ fn paper() -> [u8; 800000]
     [0; 800000]
 }
 
-// Prints the sheet. Two cells for each answer.
-fn print(pattern: &[u8], log: &[u8]) {
-    let mut cells = [0u32; 122880];
+// Writes a sheet to standard output, or says why it cannot. The buffers only say whose sheet it is: that of the input that was read.
+fn put(t: Taken, pattern: &[u8], log: &[u8], bytes: &[u8])
+    requires { ⌜ Prints t (now pattern) (now log) (now bytes) ⌝ }
+{
+    if !io::write_all(STDOUT_FILENO, bytes) {
+        os::fail(b"standard output");
+    }
+}
+
+// Prints the sheet of what was read.
+fn print(t: Taken, pattern: &[u8], log: &[u8])
+    requires { ⌜ Held t (now pattern) (now log) ⌝ }
+{
     let mut out = paper();
-    let n = answer(pattern, log, &mut cells, &mut out);
-    io::write_all(STDOUT_FILENO, first(&out, n));
+    let n = sheet::print_sheet(first(pattern, t.pattern), first(log, t.log), &mut out);
+    put(t, pattern, log, first(&out, n));
 }
 
 // Keeps one byte more of pattern and log than are accepted, so that longer ones are refused as if they were whole.
@@ -92,7 +101,7 @@ fn main() {
     let mut log = [0u8; 61441];
     match read_all(&mut pattern, &mut log) {
         Input::Read(t) => {
-            print(first(&pattern, t.pattern), first(&log, t.log));
+            print(t, &pattern, &log);
         }
         Input::Failed => {
             os::fail(b"standard input");

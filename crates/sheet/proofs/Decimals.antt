@@ -26,7 +26,7 @@ pub length-one : (n : ℕ) → n < 10 → length (decimal n) ≡ 1
 length-one n h = ap length (decimal-small n h)
 
 -- a number below a power of ten has at most so many digits
-length-below : (k n : ℕ) → n < 10 ^ suc k → length (decimal n) ≤ suc k
+pub length-below : (k n : ℕ) → n < 10 ^ suc k → length (decimal n) ≤ suc k
 length-below zero n h = omega (arith, length-one n h)
 length-below (suc k) n h = pick (le-or-lt 10 n) (λ (m : 10 ≤ n). length-below k (n / 10) (let z : 10 ^ suc (suc k) ≡ 10 ^ suc k * 10 = pow-suc 10 (suc k) in omega arith))
   where

@@ -1,12 +1,12 @@
 -- Bytes stored one after the other from a place on: joined, begun from the last, and as a whole from place 0.
 -- Assumes nothing.
 use Prim.Native.Nat.{ℕ, suc, _+_, _≤_, _<_}
-use mathlib.Core.Path.{_≡_, ap, _∙_}
+use mathlib.Core.Path.{_≡_, refl, sym, ap, ap₂, _∙_}
 use mathlib.Core.Logic.{_≢_}
 use mathlib.Core.List.{List, [], _∷_, _++_}
 use mathlib.Core.Bool.{Bool}
-use lib.ListN.{length, set, drop}
-use lib.Seq.{sets, sets-eq, set-comm}
+use lib.ListN.{length, set, take, drop}
+use lib.Seq.{sets, sets-eq, set-comm, take-at}
 use lib.Dec.{leb}
 use borrow.Author.Tests.{le-leb, lt-leb, leb-true, leb-false}
 use native.Mathlib.Omega.{arith}
@@ -45,3 +45,10 @@ laid-fits s out h =
 pub laid-not : (s out : List ℕ) → length out < length s → Lays s out 0 out
 unfolding laid laidLength
 laid-not s out h = (rw (lt-leb (length s) (length out) h), rw (lt-leb (length s) (length out) h))
+
+-- the bytes written are the sheet's
+pub laid-all : (s out : List ℕ) (r : ℕ) (out′ : List ℕ) → Lays s out r out′ → length s ≤ length out → take r out′ ≡ s
+laid-all s out r out′ w h =
+    let f = laid-fits s out h in
+    let z : 0 + length s ≤ length out = omega arith in
+    ap₂ (λ (n : ℕ) (l : List ℕ). take n l) (w .0 ∙ sym (f .0)) (w .1 ∙ (sym (f .1) ∙ sets-eq s out 0 z)) ∙ take-at s (drop (0 + length s) out) (length s) refl

@@ -11,6 +11,9 @@ use Rattle.event_log.specs.Reading.{counted}
 use Rattle.pattern.specs.Decimal.{digitsOf, decimal}
 use Rattle.meaning.specs.declared.Filled.{Filled}
 use Rattle.meaning.specs.Lent.{pairs}
+use Rattle.meaning.specs.Refusals.{refusal}
+use Rattle.meaning.specs.Finding.{listOf}
+use Rattle.sheet.specs.Input.{patternOf, logOf}
 
 -- a number and the byte that ends it: 44, a comma; 10, a line feed
 unfoldable pub field : ℕ → ℕ → List ℕ
@@ -37,6 +40,16 @@ shown count cells = take count (pairs cells)
 unfoldable pub sheetOf : Filled → List ℕ → List ℕ → List ℕ
 sheetOf f log cells =
     cond (eqb (f .number) 0) (foundSheet (counted log .lines) (counted log .damaged) (shown (f .count) cells)) (refusedSheet (f .number) (f .place))
+
+-- the sheet of a pattern and a log: `F,lines,damaged,answers` and each `start,end`; or only `R,number,place`
+unfoldable pub printed : List ℕ → List ℕ → List ℕ
+printed pattern log =
+    cond (eqb (refusal pattern log .number) 0) (foundSheet (counted log .lines) (counted log .damaged) (listOf pattern log))
+    (refusedSheet (refusal pattern log .number) (refusal pattern log .place))
+
+-- the sheet of an input: the pattern up to the first line feed (or the end), then the log
+abbrev pub printedOf : List ℕ → List ℕ
+printedOf input = printed (patternOf input) (logOf input)
 
 -- the buffer afterwards: the sheet where it fits, and what was behind it; else nothing is written
 unfoldable pub laid : List ℕ → List ℕ → List ℕ

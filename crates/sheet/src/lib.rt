@@ -11,7 +11,7 @@ ghost use lib.Seq.{sets};
 ghost use lib.Dec.{leb};
 ghost use Rattle.pattern.specs.Decimal.{decimal};
 ghost use Rattle.meaning.specs.Lent.{pairs};
-ghost use Rattle.sheet.specs.Sheet.{field, rows, foundSheet, refusedSheet, shown, sheetOf, Lays};
+ghost use Rattle.sheet.specs.Sheet.{field, rows, foundSheet, refusedSheet, shown, sheetOf, printed, Lays};
 
 fn wide(x: u32) -> usize
     ensures { λ r. ⌜ r ≡ x ⌝ }
@@ -174,4 +174,14 @@ pub fn write_sheet(f: Filled, log: &[u8], cells: &[u32], out: &mut [u8]) -> usiz
     }
     let c = event_log::count(log);
     write_found(c.lines, c.damaged, cells, f.count, out)
+}
+
+// Searches a log for a pattern and writes the sheet, and gives its length. Two cells for each answer that there can be. Where
+// the sheet does not fit, nothing is written and 0 comes back.
+pub fn print_sheet(pattern: &[u8], log: &[u8], out: &mut [u8]) -> usize
+    ensures { λ r. ⌜ Lays (printed (now (pattern .entry)) (now (log .entry))) (now (out .entry)) r (now (out .exit)) ⌝ }
+{
+    let mut cells = [0u32; 122880];
+    let f = finder::fill(pattern, log, &mut cells, 0);
+    write_sheet(f, log, &cells, out)
 }

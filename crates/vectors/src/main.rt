@@ -11,16 +11,10 @@ fn first(s: &[u8], n: usize) -> &[u8]
     if n < s.len() { &s[..n] } else { s }
 }
 
-// Writes the sheet of a pattern and a log into out.
-fn search(pattern: &[u8], log: &[u8], cells: &mut [u32], out: &mut [u8]) -> usize {
-    let r = finder::fill(pattern, log, cells, 0);
-    sheet::write_sheet(r, log, cells, out)
-}
-
+// Prints the sheet of a pattern and a log.
 fn show(pattern: &[u8], log: &[u8]) {
-    let mut cells = [0u32; 64];
     let mut out = [0u8; 512];
-    let n = search(pattern, log, &mut cells, &mut out);
+    let n = sheet::print_sheet(pattern, log, &mut out);
     io::write_all(STDOUT_FILENO, first(&out, n));
 }
 
