@@ -3,8 +3,9 @@
 use Prim.Native.Nat.{ℕ, zero, suc, _+_, _*_, _≤_, _<_}
 use mathlib.Core.Path.{_≡_, refl, sym, ap, ap₂, subst, _∙_}
 use mathlib.Core.Bool.{Bool, true, false, not}
-use mathlib.Core.List.{List, [], _∷_, _++_}
+use mathlib.Core.List.{List, [], _++_}
 use lib.ListN.{length, take, drop, replicate}
+use lib.Seq.{drop-nil}
 use lib.Dec.{ltb, eqb}
 use borrow.Author.Tests.{eqb-true, eqb-false, eq-eqb, ne-eqb, le-ltb}
 use native.Mathlib.Omega.{arith}
@@ -47,13 +48,6 @@ read-long text log rows h =
     let e : refusal text log ≡ refused 1 0 = long-log text log h in
     record { number = sym (ap (λ (x : Refusal). x .number) e); place = sym (ap (λ (x : Refusal). x .place) e); read = λ z. absurd (omega arith) }
 
-accepted-verdict : (v : Verdict) → numberOf v ≡ 0 → v ≡ Accepted
-accepted-verdict Accepted e = refl
-accepted-verdict Long e = absurd (omega arith)
-accepted-verdict (Misspelt p) e = absurd (omega arith)
-accepted-verdict Crowded e = absurd (omega arith)
-accepted-verdict Deep e = absurd (omega arith)
-
 pub read-short : (text log : List ℕ) (r : Reading) (n p : ℕ) → length log ≤ 61440 → pattern.ReadGives text r → n ≡ numberOf (r .verdict) → p ≡ placeOf (r .verdict)
     → ReadGives text log (record { number = n; place = p; rows = r .table .rows })
 read-short text log r n p h g en ep = go (r .verdict) refl
@@ -82,13 +76,6 @@ read-short text log r n p h g en ep = go (r .verdict) refl
 
 -- ── The list by the machine's words ──
 
--- the machine's numbering of answers is the list's
-nth-is : (l : List Stretch) (n : ℕ) → seek.nth l n ≡ front.nth l n
-nth-is [] zero = refl
-nth-is [] (suc n) = refl
-nth-is (x ∷ l) zero = refl
-nth-is (x ∷ l) (suc n) = nth-is l n
-
 fits-read : (text log rows : List ℕ) (r : Read text log rows) → Fits rows 0 (r .tree) 8
 fits-read text log rows r =
     let a = accepts-spells text (r .tree) (r .reads) in
@@ -116,7 +103,7 @@ open-gives text log r g = record { number = g .number; place = g .place; led = g
 -- ── Stepping ──
 
 none-nth : (l : List Stretch) (n : ℕ) → l ≡ [] → answerOf (front.nth l n) ≡ answer.None
-none-nth l n e = ap (λ (x : List Stretch). answerOf (front.nth x n)) e
+none-nth l n e = ap (λ (x : List Stretch). answerOf (front.nth x n)) e ∙ ap (λ (x : List Stretch). answerOf (front.headOf x)) (drop-nil n)
 
 pub not-true : (b : Bool) → not b ≡ true → b ≡ false
 not-true true e = sym e
@@ -142,10 +129,6 @@ missed-answer front.None r e no-one = refl
 missed-answer (front.At x) r e no-one = absurd (no-one (ap (λ (y : Front). y .status) e))
 
 module _ (log : List ℕ) (f : Finder) (live : f .live ≡ true) (r : Front) (state : List ℕ) (next : seek.NextOf (f .rows) (source log [] []) (f .state) (f .from) r state) where
-  -- the finder with the new state, to seek on from line t
-  on : ℕ → Finder
-  on t = record { live = f .live; rows = f .rows; state = state; from = t }
-
   gives : (t : ℕ) (a : Answer) → seek.onFrom (f .from) r ≡ t → ((g : front.Front) → r ≡ seeks.front g → a ≡ answerOf g) → StepGives f log (record { answer = a; finder = record { live = f .live; rows = f .rows; state = state; from = t } })
   unfolding StepGives
   gives t a et ea pattern n (closed l k) = let z : _≡_ {A = ℕ} 0 1 = cc in absurd (omega arith)
@@ -153,7 +136,7 @@ module _ (log : List ℕ) (f : Finder) (live : f .live ≡ true) (r : Front) (st
       let h = next .steps p n g in
       let same : eval (valuation (source log [] [])) p ≡ listOf pattern log = log-answers p log ∙ sym l in
       record {
-        answer = ea (seek.nth (eval (valuation (source log [] [])) p) n) (h .is) ∙ ap answerOf (nth-is (eval (valuation (source log [] [])) p) n ∙ ap (λ (x : List Stretch). front.nth x n) same);
+        answer = ea (front.nth (eval (valuation (source log [] [])) p) n) (h .is) ∙ ap (λ (x : List Stretch). answerOf (front.nth x n)) same;
         led = seeking p l k (subst (seek.Led (f .rows) (source log [] []) p (n + 1) state) et (h .on));
       }
 

@@ -1,6 +1,6 @@
 -- Nothing is void: for every pattern and log the calls' promises can be met, and what is then shown is the list, taken or filled.
 -- Assumes nothing.
-use Prim.Native.Nat.{ℕ, zero, suc, _+_, _*_, _≤_}
+use Prim.Native.Nat.{ℕ, suc, _+_, _*_, _≤_}
 use mathlib.Core.Path.{_≡_, refl, sym, ap, _∙_}
 use mathlib.Core.Bool.{Bool, true, false}
 use mathlib.Core.List.{List, [], _∷_}
@@ -20,7 +20,7 @@ use Rattle.seek.specs.declared.Front.{Front}
 use Rattle.seek.specs.Source.{source}
 use Rattle.seek.specs.Steps as seek
 use Rattle.seek.specs.Seek.{first}
-use Rattle.seek.proofs.Whole.{next-there}
+use Rattle.seek.proofs.Walk.{next-there, drop-step}
 use Rattle.finder.specs.declared.Finder.{Finder}
 use Rattle.finder.specs.declared.Answer.the-variants as answer
 use Rattle.finder.specs.declared.Stepped.{Stepped}
@@ -46,28 +46,16 @@ step-there pattern log n f (seeking p l e g) = go (first (source log [] []) p (f
         by true i = (record { answer = answer.Stretch (r .start) (r .end); finder = on (r .start + 1) }, step-some log f e r (replicate 192 0) next (eqb-true (r .status) 1 i))
         by false i = (record { answer = answer.None; finder = on (f .from) }, step-none log f e r (replicate 192 0) next (eqb-false (r .status) 1 i))
 
-nth-head : (l : List Stretch) (n : ℕ) (x : Stretch) (xs : List Stretch) → drop n l ≡ x ∷ xs → (front.nth l n ≡ front.At x) × (drop (suc n) l ≡ xs)
-nth-head [] zero x xs e = let z : _≡_ {A = ℕ} 0 1 = cc in absurd (omega arith)
-nth-head [] (suc n) x xs e = let z : _≡_ {A = ℕ} 0 1 = cc in absurd (omega arith)
-nth-head (y ∷ l) zero x xs e = (cc, cc)
-nth-head (y ∷ l) (suc n) x xs e = nth-head l n x xs e
-
-nth-past : (l : List Stretch) (n : ℕ) → drop n l ≡ [] → front.nth l n ≡ front.None
-nth-past [] n e = refl
-nth-past (y ∷ l) zero e = let z : _≡_ {A = ℕ} 0 1 = cc in absurd (omega arith)
-nth-past (y ∷ l) (suc n) e = nth-past l n e
-
 steps-there : (pattern log : List ℕ) (rest : List Stretch) (n : ℕ) (f : Finder) → drop n (listOf pattern log) ≡ rest → Led pattern log n f → Steps log f rest
 unfolding StepGives
 steps-there pattern log [] n f e led =
     let k = step-there pattern log n f led in
-    last (k .0) (k .1) (k .1 pattern n led .answer ∙ ap answerOf (nth-past (listOf pattern log) n e))
+    last (k .0) (k .1) (k .1 pattern n led .answer ∙ ap (λ (l : List Stretch). answerOf (front.headOf l)) e)
 steps-there pattern log (x ∷ xs) n f e led =
     let k = step-there pattern log n f led in
-    let h = nth-head (listOf pattern log) n x xs e in
     let z : n + 1 ≡ suc n = omega arith in
-    more (k .0) (x .start) (x .end) (k .1) (k .1 pattern n led .answer ∙ ap answerOf (h .0))
-    (steps-there pattern log xs (n + 1) (k .0 .finder) (ap (λ (m : ℕ). drop m (listOf pattern log)) z ∙ h .1) (k .1 pattern n led .led))
+    more (k .0) (x .start) (x .end) (k .1) (k .1 pattern n led .answer ∙ ap (λ (l : List Stretch). answerOf (front.headOf l)) e)
+    (steps-there pattern log xs (n + 1) (k .0 .finder) (ap (λ (m : ℕ). drop m (listOf pattern log)) z ∙ drop-step n (listOf pattern log) x xs e .0) (k .1 pattern n led .led))
 
 -- what reading both gives
 read-there : (pattern log : List ℕ) → (r : Readied) × ReadGives pattern log r

@@ -18,11 +18,11 @@ use Rattle.meaning.specs.declared.Filled.{Filled}
 use Rattle.meaning.specs.Meaning.{apply}
 use Rattle.meaning.specs.Filling.{pairsIn, written}
 use Rattle.meaning.specs.Finding.{filling}
-use Rattle.meaning.specs.Lent.{listsOf, operatorOf, miscalled, mistaken, miscut, disordered}
+use Rattle.meaning.specs.Lent.{listsOf, operatorOf}
 use Rattle.meaning.proofs.Tree.{AllFine, fine-answers}
 use Rattle.meaning.proofs.Bounds.{sized, few-written}
+use Rattle.meaning.specs.Refusals.{miscalled, mistaken, miscut, disordered, lowest, listsRefusal, takingRefusal}
 use Rattle.lists.specs.declared.Taken.{Taken}
-use Rattle.lists.specs.Refusals.{lowest, listsRefusal, takingRefusal}
 use Rattle.lists.specs.Filling.{listAnswers, walked, notFilled, fillResult}
 use Rattle.lists.specs.Taking.{takenBy, takenOf, given, notTaken, takeResult}
 use Rattle.lists.proofs.Ordering.{fine-lists}

@@ -1,21 +1,21 @@
 -- What an accepted call is known to have, and what a call's result and cells then are. The refusal is opened test by test. Assumes nothing.
-use Prim.Native.Nat.{ℕ, zero, suc, _+_, _≤_, _<_}
+use Prim.Native.Nat.{ℕ, zero, suc, _≤_}
 use mathlib.Core.Path.{_≡_, refl, sym, ap, ap₂, _∙_}
 use mathlib.Core.Bool.{Bool, true, false, not, cond, _&&_, _||_}
-use mathlib.Core.List.{List, [], _∷_, _++_}
-use mathlib.Core.Option.{Option, some}
+use mathlib.Core.List.{List, _++_}
+use mathlib.Core.Option.{some}
 use native.Mathlib.Omega.{arith}
-use lib.ListN.{length, take, drop, take-append-drop}
+use lib.ListN.{length, drop, take-append-drop}
 use lib.Dec.{leb, ltb, eqb}
 use borrow.Author.Tests.{eq-eqb, ne-eqb, leb-true, ltb-false, not-false}
-use Rattle.stretches.specs.Front.{Front, None, At}
 use Rattle.stretches.specs.Taking as algorithm
 use Rattle.stretches.specs.Taking.{taking}
 use Rattle.stretches.proofs.Lists.{and-true}
-use Rattle.meaning.specs.Lent.{listsOf, operatorOf, takesLists, mistaken, miscut, disordered}
+use Rattle.pattern.specs.Rows.{symbol}
+use Rattle.meaning.specs.Lent.{listsOf, operatorOf}
+use Rattle.meaning.specs.Refusals.{takesLists, mistaken, miscut, disordered, lowest, takingRefusal}
 use Rattle.lists.specs.declared.queue.Item.{Item}
 use Rattle.lists.specs.declared.Taken.{Taken}
-use Rattle.lists.specs.Refusals.{lowest, takingRefusal}
 use Rattle.lists.specs.Taking.{takenBy, given, notTaken, takeResult, takeCells}
 use Rattle.lists.specs.Queue.{frontOf, opOf, Lent, handed, Handed}
 use Rattle.lists.proofs.Cutting.{or-false}
@@ -57,6 +57,7 @@ module _ (op : ℕ) (items ends counts : List ℕ) (p : ℕ) where
     pub which : operatorOf op 0 ≡ some (opOf (eqb op 1))
 
   two : (m : ℕ) → 1 ≤ m → m ≤ 2 → operatorOf m 0 ≡ some (opOf (eqb m 1))
+  unfolding symbol
   two zero lo hi = absurd (omega arith)
   two (suc zero) lo hi = refl
   two (suc (suc zero)) lo hi = refl

@@ -1,6 +1,6 @@
 -- The cut of lent lists: what the reader of the end places finds at each, and what a right cut says of the places.
 -- Each law opens the list of end places at one place. Assumes nothing.
-use Prim.Native.Nat.{ℕ, zero, suc, _+_, _-_, _*_, _%_, _≤_, _<_}
+use Prim.Native.Nat.{ℕ, suc, _+_, _%_, _≤_, _<_}
 use mathlib.Core.Path.{_≡_, refl, sym, ap, ap₂, _∙_}
 use mathlib.Core.Bool.{Bool, true, false, not, _||_}
 use mathlib.Core.List.{List, [], _∷_}
@@ -9,25 +9,14 @@ use lib.ListN.{length, getD, drop, drop-of-length-le}
 use lib.Seq.{drop-cons}
 use lib.Dec.{ltb, eqb}
 use borrow.Author.Tests.{eq-eqb, ne-eqb, lt-ltb, le-ltb, eqb-true, ltb-false, not-false}
-use Rattle.stretches.proofs.Lists.{cases}
-use Rattle.meaning.specs.Lent.{miscutFrom}
+use Rattle.pattern.proofs.Basics.{or-left, or-right}
+use Rattle.meaning.specs.Refusals.{miscutFrom}
 
 -- ── Bools ──
-
-pub or-left : (a b : Bool) → a ≡ true → a || b ≡ true
-or-left true b e = refl
-or-left false b e = cc
-
-pub or-right : (a b : Bool) → b ≡ true → a || b ≡ true
-or-right true b e = refl
-or-right false b e = e
 
 pub or-false : (a b : Bool) → a || b ≡ false → (a ≡ false) × (b ≡ false)
 or-false true b e = let z : _≡_ {A = Bool} true false = e in (z, cc)
 or-false false b e = (refl, e)
-
-pub both-false : (a b : Bool) → a ≡ false → b ≡ false → a || b ≡ false
-both-false a b p q = cc
 
 -- ── Lists, opened at a place ──
 

@@ -1,7 +1,7 @@
 -- The filling call over lent lists: a refused call changes nothing; in an accepted one the machine's promise over the laid table is the call's.
 -- What the refusals leave is what the machine asks of its source. Assumes nothing.
 use Prim.Native.Nat.{ℕ, zero, suc, _≤_, _<_}
-use mathlib.Core.Path.{_≡_, refl, sym, ap, ap₂, subst, _∙_}
+use mathlib.Core.Path.{_≡_, sym, ap, ap₂, subst, _∙_}
 use mathlib.Core.Bool.{true, false, not, cond, _&&_, _||_}
 use mathlib.Core.List.{List, [], _∷_}
 use native.Mathlib.Omega.{arith}
@@ -10,22 +10,22 @@ use lib.Dec.{leb, eqb}
 use borrow.Author.Tests.{eq-eqb, ne-eqb, leb-true, not-false}
 use Rattle.stretches.specs.Stretch.{Stretch}
 use Rattle.stretches.proofs.Lists.{and-true}
-use Rattle.meaning.specs.declared.Filled.{Filled}
 use Rattle.meaning.specs.Filling.{filled}
-use Rattle.meaning.specs.Lent.{listsOf, takesLists, takesBound, miscalled, miscut, disordered}
+use Rattle.meaning.specs.Lent.{listsOf}
 use Rattle.meaning.proofs.Tree.{Fine, AllFine}
+use Rattle.meaning.specs.Refusals.{takesLists, takesBound, miscalled, listsRefusal}
+use Rattle.meaning.proofs.Lent.{lists-length}
 use Rattle.seek.specs.declared.Walked.{Walked}
 use Rattle.seek.specs.Source.{source, listTree, Good}
 use Rattle.seek.specs.Steps.{Filling, FillAll}
 use Rattle.seek.proofs.Sources.{good-lists}
-use Rattle.lists.specs.Refusals.{listsRefusal}
 use Rattle.lists.specs.Filling.{listAnswers, walked, notFilled, fillResult, fillCells}
 use Rattle.lists.specs.Table.{symbolOf, Laid}
 use Rattle.lists.proofs.Cutting.{or-false}
 use Rattle.lists.proofs.Ordering.{fine-lists}
-use Rattle.lists.proofs.Queues.{ends-inside, lists-length}
+use Rattle.lists.proofs.Queues.{ends-inside}
 use Rattle.lists.proofs.Laying.{Ranked, ranked, laid-fits, laid-answers}
-use Rattle.lists.proofs.Accepting.{Accepted, accepted}
+use Rattle.lists.proofs.Accepting.{accepted}
 
 fine-at : (n : ℕ) (ls : List (List Stretch)) → AllFine n ls → (k : ℕ) → k < length ls → Fine n (getD ls k [])
 fine-at n [] f k h = absurd (omega arith)

@@ -14,9 +14,9 @@ use Rattle.stretches.specs.Stretch.{lengthOf}
 use Rattle.stretches.specs.Stretch as operators
 use Rattle.stretches.proofs.Lists.{le-or-lt, and-true}
 use Rattle.pattern.specs.Pattern.{Ev, Or, And, Row, Then, Less, Max}
-use Rattle.pattern.specs.Rows.{kindOf, firstOf, secondOf, Entry}
+use Rattle.pattern.specs.Rows.{kindOf, firstOf, secondOf, Entry, symbol}
 use Rattle.meaning.specs.Meaning.{eval}
-use Rattle.meaning.specs.Lent.{takesLists}
+use Rattle.meaning.specs.Refusals.{takesLists}
 use Rattle.seek.specs.Source.{source, valuation, listTree}
 use Rattle.seek.specs.Seek.{Arity, Fits}
 use Rattle.seek.proofs.Sources.{list-fits, list-stands, list-answers}
@@ -107,21 +107,12 @@ six P a b c d e f (suc (suc (suc (suc (suc (suc zero)))))) lo hi = f
 six P a b c d e f (suc (suc (suc (suc (suc (suc (suc n))))))) lo hi = absurd (omega arith)
 
 -- what the operator's symbol says in a table
-record Symbolic (k n op : ℕ) : Type 0 where
-  kind : kindOf (symbolOf op k n) ≡ op
-  first : firstOf (symbolOf op k n) ≡ firstNumber op k n
-  second : secondOf (symbolOf op k n) ≡ 0
+abbrev Symbolic : ℕ → ℕ → ℕ → Type 0
+Symbolic k n op = (kindOf (symbolOf op k n) ≡ op) × (firstOf (symbolOf op k n) ≡ firstNumber op k n) × (secondOf (symbolOf op k n) ≡ 0)
 
 symbolic : (k n op : ℕ) → 1 ≤ op → op ≤ 6 → Symbolic k n op
-symbolic k n op lo hi =
-    six (Symbolic k n)
-    (record { kind = refl; first = refl; second = refl })
-    (record { kind = refl; first = refl; second = refl })
-    (record { kind = refl; first = refl; second = refl })
-    (record { kind = refl; first = refl; second = refl })
-    (record { kind = refl; first = refl; second = refl })
-    (record { kind = refl; first = refl; second = refl })
-    op lo hi
+unfolding symbol
+symbolic k n = six (Symbolic k n) (refl, refl, refl) (refl, refl, refl) (refl, refl, refl) (refl, refl, refl) (refl, refl, refl) (refl, refl, refl)
 
 -- how many lists an operator that is not miscalled has
 pub record Ranked (k n op : ℕ) : Type 0 where
@@ -129,16 +120,17 @@ pub record Ranked (k n op : ℕ) : Type 0 where
   pub few : n ≤ 31
   pub arity : Arity (symbolOf op k n) n
 
-many : (n : ℕ) → leb 2 n && leb n 31 ≡ true → (2 ≤ n) × (n ≤ 31)
-many n h = let p = and-true (leb 2 n) (leb n 31) h in (leb-true 2 n (p .0), leb-true n 31 (p .1))
+many : (n : ℕ) → leb 2 n && leb n 31 ≡ true → (1 ≤ n) × (n ≤ 31)
+many n h = let p = and-true (leb 2 n) (leb n 31) h in (omega (arith, leb-true 2 n (p .0)), leb-true n 31 (p .1))
 
 pub ranked : (k n op : ℕ) → 1 ≤ op → op ≤ 6 → takesLists op n ≡ true → Ranked k n op
+unfolding symbol
 ranked k n op lo hi =
     six (λ op. takesLists op n ≡ true → Ranked k n op)
-    (λ h. record { some = omega (arith, many n h .0); few = many n h .1; arity = tt })
-    (λ h. record { some = omega (arith, many n h .0); few = many n h .1; arity = omega (arith, many n h .0) })
-    (λ h. record { some = omega (arith, many n h .0); few = many n h .1; arity = omega (arith, many n h .0) })
-    (λ h. record { some = omega (arith, many n h .0); few = many n h .1; arity = omega (arith, many n h .0) })
+    (λ h. let m = many n h in record { some = m .0; few = m .1; arity = tt })
+    (λ h. let m = many n h in record { some = m .0; few = m .1; arity = m .0 })
+    (λ h. let m = many n h in record { some = m .0; few = m .1; arity = m .0 })
+    (λ h. let m = many n h in record { some = m .0; few = m .1; arity = m .0 })
     (λ h. record { some = omega (arith, eqb-true n 2 h); few = omega (arith, eqb-true n 2 h); arity = eqb-true n 2 h })
     (λ h. record { some = omega (arith, eqb-true n 1 h); few = omega (arith, eqb-true n 1 h); arity = eqb-true n 1 h })
     op lo hi
@@ -164,12 +156,13 @@ module _ (op k n : ℕ) (rows : List ℕ) (l : Laid op k n n rows) where
       let s = symbolic k n op lo hi in
       list-fits rows (symbolOf op k n) n (r .arity) (r .few)
       (list-stands rows (symbolOf op k n) n
-      (record { kind = l .kind ∙ sym (s .kind); size = l .size; first = l .first ∙ sym (s .first); second = l .seconds 0 (omega arith) ∙ sym (s .second) })
+      (record { kind = l .kind ∙ sym (s .0); size = l .size; first = l .first ∙ sym (s .1); second = l .seconds 0 (omega arith) ∙ sym (s .2) })
       (leaf-stands (r .few)))
 
 -- its list is the operator's answers over the lent lists
 pub laid-answers : (op k : ℕ) (log items ends : List ℕ) → (length ends ≡ 0 → ⊥) → 1 ≤ op → op ≤ 6
     → eval (valuation (source log items ends)) (listTree (symbolOf op k (length ends)) (length ends)) ≡ listAnswers op k items ends
+unfolding symbol
 laid-answers op k log items ends there lo hi =
     six (λ op. eval (valuation (source log items ends)) (listTree (symbolOf op k (length ends)) (length ends)) ≡ listAnswers op k items ends)
     (list-answers log items ends there (Or (length ends)) operators.Or refl)

@@ -1,42 +1,23 @@
 -- The order of lent lists: what the reader of a list finds at each stretch, and that lists which are not refused rise, are sound and end below 65,536.
 -- A list is read with the least start and end that its next stretch may have, one past those before. Assumes nothing.
-use Prim.Native.Nat.{ℕ, zero, suc, _+_, _-_, _*_, _≤_, _<_}
+use Prim.Native.Nat.{ℕ, suc, _+_, _≤_, _<_}
 use mathlib.Core.Path.{_≡_, refl, sym, ap, ap₂, _∙_}
 use mathlib.Core.Logic.{_⊎_, inl, inr}
-use mathlib.Core.Bool.{Bool, true, false, not, _||_}
+use mathlib.Core.Bool.{Bool, true, false, _||_}
 use mathlib.Core.List.{List, [], _∷_}
 use native.Mathlib.Omega.{arith}
-use lib.ListN.{length, getD, take, drop, drop-of-length-le}
+use lib.ListN.{length, getD, drop, drop-of-length-le}
 use lib.Dec.{ltb, leb, leb·suc-suc}
 use borrow.Author.Tests.{lt-ltb, le-ltb, ltb-false}
-use Rattle.stretches.specs.Stretch.{Stretch, st, In, Above, Rising}
+use Rattle.stretches.specs.Stretch.{Stretch, st, In}
 use Rattle.stretches.proofs.Answers.{Sound}
 use Rattle.stretches.proofs.Cut.{Below}
-use Rattle.meaning.specs.Lent.{pairs, listsFrom, spoiled, disorderedAfter, disorderedList, disordered}
+use Rattle.pattern.proofs.Basics.{or-left, or-right}
+use Rattle.meaning.specs.Lent.{listsFrom, part}
 use Rattle.meaning.proofs.Tree.{Fine, AllFine}
-use Rattle.lists.proofs.Cutting.{or-left, or-right, or-false, open-at}
-
--- the stretches from place i of the items up to place h
-abbrev pub part : List ℕ → ℕ → ℕ → List Stretch
-part items i h = pairs (take (h - i) (drop i items))
-
-pub part-cons : (items : List ℕ) (i h : ℕ) → i + 1 < h → h ≤ length items → part items i h ≡ st (getD items i 0) (getD items (i + 1) 0) ∷ part items (i + 2) h
-part-cons items i h lt le =
-    let a = open-at items i (omega arith) in
-    let b = open-at items (i + 1) (omega arith) in
-    let n : h - i ≡ suc (suc (h - (i + 2))) = omega arith in
-    let q : i + 1 + 1 ≡ i + 2 = omega arith in
-    ap₂ (λ (m : ℕ) (l : List ℕ). pairs (take m l)) n (a ∙ ap (λ (l : List ℕ). getD items i 0 ∷ l) b)
-    ∙ ap (λ (k : ℕ). st (getD items i 0) (getD items (i + 1) 0) ∷ pairs (take (h - (i + 2)) (drop k items))) q
-
-short-pairs : (n : ℕ) (l : List ℕ) → n ≤ 1 → pairs (take n l) ≡ []
-short-pairs zero l le = refl
-short-pairs (suc zero) [] le = refl
-short-pairs (suc zero) (x ∷ l) le = refl
-short-pairs (suc (suc n)) l le = absurd (omega arith)
-
-pub part-nil : (items : List ℕ) (i h : ℕ) → h ≤ i + 1 → part items i h ≡ []
-part-nil items i h le = short-pairs (h - i) (drop i items) (omega arith)
+use Rattle.meaning.specs.Refusals.{spoiled, disorderedAfter, disorderedList, disordered}
+use Rattle.meaning.proofs.Lent.{part-cons, part-nil}
+use Rattle.lists.proofs.Cutting.{or-false, open-at}
 
 -- ── One list ──
 

@@ -1,53 +1,25 @@
 -- The queue over lent lists: the item of a list that was taken last, the top and the span of the items from a list on, and the count that an advance moves.
 -- Each law opens the items at one list. Assumes nothing.
 use Prim.Native.Nat.{ℕ, zero, suc, _+_, _-_, _*_, _≤_, _<_}
-use mathlib.Core.Path.{_≡_, refl, sym, ap, ap₂, subst, _∙_}
-use mathlib.Core.Logic.{_⊎_, _≢_, inl, inr}
-use mathlib.Core.Bool.{Bool, true, false, cond, _&&_, _||_}
+use mathlib.Core.Path.{_≡_, sym, ap, ap₂, _∙_}
+use mathlib.Core.Logic.{_⊎_, inl, inr}
+use mathlib.Core.Bool.{Bool, true, false, _&&_, _||_}
 use mathlib.Core.List.{List, [], _∷_}
 use native.Mathlib.Omega.{arith}
-use lib.ListN.{length, getD, set, take, drop, length-set, length-take}
+use lib.ListN.{length, getD}
 use lib.Dec.{ltb, eqb}
 use borrow.Author.Tests.{lt-ltb, le-ltb, eq-eqb, ne-eqb}
 use Rattle.stretches.specs.Stretch.{Stretch, st}
 use Rattle.stretches.proofs.Lists.{le-or-lt}
-use Rattle.stretches.specs.Front.{Front, None, At, nth}
-use Rattle.stretches.specs.Taking.{Order, fronts, leads, top, topIndex, join, span, oneMore, advance}
-use Rattle.meaning.specs.Lent.{pairs, listsFrom, listsOf, miscutFrom, miscut}
-use Rattle.lists.proofs.Cutting.{RightAt, right-first}
-use Rattle.lists.proofs.Ordering.{part, part-cons, part-nil}
-use Rattle.lists.specs.Queue.{startAt, queue}
+use Rattle.stretches.specs.Front.{None, At, nth}
+use Rattle.meaning.specs.Lent.{listsOf}
+use Rattle.meaning.specs.Refusals.{miscutFrom, miscut}
+use Rattle.meaning.proofs.Lent.{part-cons, part-nil, lists-at}
+use Rattle.meaning.specs.Lent.{part}
+use Rattle.meaning.specs.Lent.{startOf}
+use Rattle.lists.proofs.Cutting.{right-first}
 
 -- ── The lists by their places ──
-
-pub start-later : (ends : List ℕ) (i : ℕ) → (i ≡ 0 → ⊥) → getD ends (i - 1) 0 ≡ startAt ends i
-start-later ends zero h = absurd (h refl)
-start-later ends (suc i) h = let z : suc i - 1 ≡ i = omega arith in ap (λ (j : ℕ). getD ends j 0) z
-
--- where list i starts, the first starting at lo
-abbrev startFrom : ℕ → List ℕ → ℕ → ℕ
-startFrom lo ends zero = lo
-startFrom lo ends (suc i) = getD ends i 0
-
-start-next : (lo e : ℕ) (ends : List ℕ) (i : ℕ) → startFrom e ends i ≡ startFrom lo (e ∷ ends) (suc i)
-start-next lo e ends zero = refl
-start-next lo e ends (suc i) = refl
-
-lists-from : (items : List ℕ) (lo : ℕ) (ends : List ℕ) (i : ℕ) → i < length ends → getD (listsFrom lo items ends) i [] ≡ part items (startFrom lo ends i) (getD ends i 0)
-lists-from items lo [] i h = absurd (omega arith)
-lists-from items lo (e ∷ ends) zero h = refl
-lists-from items lo (e ∷ ends) (suc i) h = lists-from items e ends i (omega arith) ∙ ap (λ (j : ℕ). part items j (getD ends i 0)) (start-next lo e ends i)
-
-start-is : (ends : List ℕ) (i : ℕ) → startFrom 0 ends i ≡ startAt ends i
-start-is ends zero = refl
-start-is ends (suc i) = refl
-
-pub lists-at : (items ends : List ℕ) (i : ℕ) → i < length ends → getD (listsOf items ends) i [] ≡ part items (startAt ends i) (getD ends i 0)
-lists-at items ends i h = lists-from items 0 ends i h ∙ ap (λ (j : ℕ). part items j (getD ends i 0)) (start-is ends i)
-
-pub lists-length : (lo : ℕ) (items ends : List ℕ) → length (listsFrom lo items ends) ≡ length ends
-lists-length lo items [] = refl
-lists-length lo items (e ∷ ends) = ap suc (lists-length e items ends)
 
 -- every end place of a right cut lies inside the items
 inside-from : (at : ℕ) (ends : List ℕ) (len : ℕ) → miscutFrom at ends len ≡ false → (i : ℕ) → getD ends i 0 ≤ len
@@ -77,10 +49,10 @@ nth-part-at items hi (suc m) lo le h =
     ap (λ (l : List Stretch). nth l (suc m)) (part-cons items lo hi (omega arith) le)
     ∙ (nth-part-at items hi m (lo + 2) le (omega arith) ∙ ap (λ (i : ℕ). At (st (getD items i 0) (getD items (i + 1) 0))) z)
 
-module _ (items ends counts : List ℕ) (cut : miscut items ends ≡ false) (i lo hi m : ℕ) (here : i < length ends)
-    (is-lo : lo ≡ startAt ends i) (is-hi : hi ≡ getD ends i 0) (is-m : m ≡ getD counts i 0 - 1) where
+module _ (items ends counts : List ℕ) (cut : miscut items ends ≡ false) (i lo hi m : ℕ)
+    (is-lo : lo ≡ startOf ends i) (is-hi : hi ≡ getD ends i 0) (is-m : m ≡ getD counts i 0 - 1) where
   place : getD (listsOf items ends) i [] ≡ part items lo hi
-  place = lists-at items ends i here ∙ ap₂ (λ (a b : ℕ). part items a b) (sym is-lo) (sym is-hi)
+  place = lists-at items ends i ∙ ap₂ (λ (a b : ℕ). part items a b) (sym is-lo) (sym is-hi)
 
   inside : hi ≤ length items
   inside = omega (arith, ends-inside items ends cut i)

@@ -1,22 +1,22 @@
 -- A run of the algorithms over lent lists: how it begins, a call of next, and the calls one after another; after none nothing moves, so the run may stop there.
 -- Each law joins what the parts say of the first n count cells. Assumes nothing.
-use Prim.Native.Nat.{ℕ, zero, suc, _+_, _-_, _≤_, _<_}
-use mathlib.Core.Path.{_≡_, refl, sym, ap, ap₂, subst, _∙_}
-use mathlib.Core.Bool.{Bool, true, false, cond}
+use Prim.Native.Nat.{ℕ, zero, suc, _+_, _-_, _≤_}
+use mathlib.Core.Path.{_≡_, refl, sym, ap, ap₂, _∙_}
+use mathlib.Core.Bool.{Bool, true, false}
 use mathlib.Core.List.{List, [], _∷_, _++_, map}
 use native.Mathlib.Omega.{arith}
 use lib.ListN.{length, take, drop, replicate, length-replicate}
 use lib.Seq.{take-at, drop-at}
 use Rattle.stretches.specs.Stretch.{Stretch, st, answers}
-use Rattle.stretches.specs.Front.{Front, None, At, nth}
-use Rattle.stretches.specs.Taking.{Taken, top, span, total, skip, shrink, orHand, andHand, andFrom, next, begun, taking}
+use Rattle.stretches.specs.Front.{Front, None, nth}
+use Rattle.stretches.specs.Taking.{Taken, total, skip, shrink, orHand, andHand, andFrom, next, taking}
 use Rattle.stretches.proofs.Taking.{or-taken, or-stays, and-taken, and-stays, nth-none}
 use Rattle.meaning.specs.Lent.{listsOf}
 use Rattle.meaning.proofs.Tree.{AllFine}
+use Rattle.meaning.proofs.Lent.{lists-length}
 use Rattle.lists.specs.declared.queue.Item.{Item}
 use Rattle.lists.specs.Queue.{frontOf, orderOf, viewOf, opOf, Lent, queue, handed, Moved, Handed}
 use Rattle.lists.proofs.Ordering.{fine-lists}
-use Rattle.lists.proofs.Queues.{lists-length}
 use Rattle.lists.proofs.Tops.{front-at, front-none}
 
 -- ── Line 0 ──

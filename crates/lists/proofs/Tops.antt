@@ -13,11 +13,11 @@ use Rattle.stretches.specs.Taking.{Order, fronts, leads, top, topIndex, join, s
 use Rattle.stretches.proofs.Steps.{rising-length}
 use Rattle.meaning.specs.Lent.{listsOf}
 use Rattle.meaning.proofs.Tree.{AllFine}
+use Rattle.meaning.proofs.Lent.{lists-length}
 use Rattle.lists.specs.declared.queue.Item.{Item}
 use Rattle.lists.specs.declared.queue.Top.{Top}
 use Rattle.lists.specs.Queue.{frontOf, orderOf, Lent, queue, betterOf, Topped, Moved}
 use Rattle.lists.proofs.Ordering.{fine-lists}
-use Rattle.lists.proofs.Queues.{lists-length}
 
 -- ── The queue, opened at a list ──
 
@@ -118,10 +118,6 @@ top-at o (f ∷ fs) y e = go (leads o f (top o fs)) e (top-at o fs y)
     go true p k = (omega arith, p)
     go false p k = (omega (arith, k p .0), k p .1)
 
-leads-none : (o : Order) (f : Front) → leads o f None ≡ false → f ≡ None
-leads-none o None e = refl
-leads-none o (At x) e = cc
-
 top-none : (o : Order) (q : List Front) → top o q ≡ None → topIndex o q ≡ length q
 top-none o [] e = refl
 top-none o (f ∷ fs) e = go (leads o f (top o fs)) refl e (top-none o fs)
@@ -142,7 +138,8 @@ more-past zero (k ∷ ks) h = absurd (omega arith)
 more-past (suc i) (k ∷ ks) h = ap (λ l. k ∷ l) (more-past i ks (omega arith))
 
 nth-short : (l : List Stretch) (m : ℕ) (y : Stretch) → nth l m ≡ At y → m < length l
-nth-short [] m y e = let z : _≡_ {A = ℕ} 0 1 = cc in absurd (omega arith)
+nth-short [] zero y e = let z : _≡_ {A = ℕ} 0 1 = cc in absurd (omega arith)
+nth-short [] (suc m) y e = let z : _≡_ {A = ℕ} 0 1 = cc in absurd (omega arith)
 nth-short (x ∷ l) zero y e = omega arith
 nth-short (x ∷ l) (suc m) y e = omega (arith, nth-short l m y e)
 

@@ -1,7 +1,7 @@
 -- The loops of Algorithms 2 and 3 over lent lists: a turn of the code is a turn of the definition, on the first n count cells, n being the number of lists.
 -- The code's bound on the turns is the definition's, half the number of items and one. Assumes nothing.
-use Prim.Native.Nat.{ℕ, zero, suc, _+_, _-_, _*_, _/_, _%_, _≤_, _<_}
-use mathlib.Core.Path.{_≡_, refl, sym, ap, ap₂, subst, _∙_}
+use Prim.Native.Nat.{ℕ, zero, suc, _+_, _-_, _*_, _/_, _%_, _<_}
+use mathlib.Core.Path.{_≡_, refl, sym, ap, ap₂, _∙_}
 use mathlib.Core.Bool.{Bool, true, false, cond, _&&_}
 use mathlib.Core.List.{List, [], _∷_}
 use native.Mathlib.Omega.{arith}
@@ -12,10 +12,11 @@ use borrow.Author.Tests.{eq-eqb, ne-eqb, eqb-true, not-false}
 use Rattle.stretches.specs.Stretch.{Stretch, st, inside}
 use Rattle.stretches.specs.Front.{Front, None, At}
 use Rattle.stretches.specs.Taking.{Taken, Order, fronts, top, span, contains, advance, startsFirst, total, skip, isTop, again, shrink}
-use Rattle.meaning.specs.Lent.{pairs, listsFrom, listsOf, miscutFrom, miscut}
+use Rattle.meaning.specs.Lent.{pairs, listsFrom, listsOf}
+use Rattle.meaning.specs.Refusals.{miscutFrom, miscut}
 use Rattle.lists.specs.declared.queue.Item.{Item}
-use Rattle.lists.specs.Queue.{frontOf, orderOf, viewOf, Lent, queue, handed, Moved, Handed}
-use Rattle.lists.proofs.Cutting.{RightAt, right-first}
+use Rattle.lists.specs.Queue.{frontOf, orderOf, viewOf, Lent, queue, Moved, Handed}
+use Rattle.lists.proofs.Cutting.{right-first}
 use Rattle.lists.proofs.Tops.{front-at, front-none}
 
 -- ── The items of all lists ──

@@ -10,7 +10,7 @@ use Rattle.meaning.specs.declared.Filled.{Filled}
 use Rattle.meaning.specs.Meaning.{apply}
 use Rattle.meaning.specs.Filling.{written, filled, moreAfter}
 use Rattle.meaning.specs.Lent.{listsOf, operatorOf}
-use Rattle.lists.specs.Refusals.{listsRefusal}
+use Rattle.meaning.specs.Refusals.{listsRefusal}
 
 -- the operator's answers over the lent lists
 abbrev pub listAnswers : ℕ → ℕ → List ℕ → List ℕ → List Stretch

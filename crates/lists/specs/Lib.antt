@@ -1,4 +1,3 @@
-pub mod Refusals
 pub mod Filling
 pub mod Taking
 pub mod Table

@@ -1,14 +1,15 @@
 -- The queue of the taking call as the code keeps it: what the contracts of private functions cite. Assumes nothing.
-use Prim.Native.Nat.{ℕ, zero, suc, _+_, _≤_, _<_}
+use Prim.Native.Nat.{ℕ, _+_, _≤_}
 use mathlib.Core.Path.{_≡_}
 use mathlib.Core.Bool.{Bool, true, false, cond}
-use mathlib.Core.List.{List, [], _∷_}
-use lib.ListN.{length, getD, take, drop}
-use Rattle.stretches.specs.Stretch.{Stretch, st, Op, Or, And}
+use mathlib.Core.List.{List}
+use lib.ListN.{length, take, drop}
+use Rattle.stretches.specs.Stretch.{st, Op, Or, And}
 use Rattle.stretches.specs.Front.{Front, None, At}
 use Rattle.stretches.specs.Taking.{Order, endsFirst, startsFirst, fronts, leads, top, topIndex, span}
 use Rattle.stretches.specs.Taking as taking
-use Rattle.meaning.specs.Lent.{listsOf, miscut, disordered}
+use Rattle.meaning.specs.Lent.{listsOf}
+use Rattle.meaning.specs.Refusals.{miscut, disordered}
 use Rattle.lists.specs.declared.queue.Item.{Item}
 use Rattle.lists.specs.declared.queue.Top.{Top}
 
@@ -28,11 +29,6 @@ viewOf false = span
 abbrev pub opOf : Bool → Op
 opOf true = Or
 opOf false = And
-
--- the place where list i starts
-abbrev pub startAt : List ℕ → ℕ → ℕ
-startAt ends zero = 0
-startAt ends (suc i) = getD ends i 0
 
 -- lists that are not refused, with a count cell for each
 pub record Lent (items ends counts : List ℕ) : Type 0 where

@@ -5,20 +5,16 @@ use mathlib.Core.Bool.{cond}
 use mathlib.Core.List.{List}
 use lib.ListN.{length, getD}
 use lib.Dec.{eqb}
-use Rattle.pattern.specs.Pattern.{Symbol, Or, And, Row, Then, Less, Max}
+use Rattle.pattern.specs.Pattern.{Symbol}
+use Rattle.pattern.specs.Rows.{symbol}
 
--- the symbol of an operator's number, its bound and the number of its operands
-abbrev pub symbolOf : ℕ → ℕ → ℕ → Symbol
-symbolOf op k n =
-    cond (eqb op 1) (Or n)
-    (cond (eqb op 2) (And n)
-    (cond (eqb op 3) (Row n)
-    (cond (eqb op 4) (Then n)
-    (cond (eqb op 5) Less (Max k)))))
-
--- the first number of its node
+-- the first number of an operator's node: k, the number of its operands, or 0
 abbrev pub firstNumber : ℕ → ℕ → ℕ → ℕ
 firstNumber op k n = cond (eqb op 5) 0 (cond (eqb op 6) k n)
+
+-- the symbol of an operator's number, with k and the number of its operands
+abbrev pub symbolOf : ℕ → ℕ → ℕ → Symbol
+symbolOf op k n = symbol op (firstNumber op k n) 0
 
 -- the operator's node and the first i leaves stand in the rows
 pub record Laid (op k n i : ℕ) (rows : List ℕ) : Type 0 where

@@ -11,8 +11,8 @@ use Rattle.stretches.specs.Front.{Front, None, At}
 use Rattle.stretches.specs.Taking as algorithm
 use Rattle.stretches.specs.Taking.{begun, taking}
 use Rattle.meaning.specs.Lent.{listsOf, operatorOf}
+use Rattle.meaning.specs.Refusals.{takingRefusal}
 use Rattle.lists.specs.declared.Taken.{Taken}
-use Rattle.lists.specs.Refusals.{takingRefusal}
 
 -- answer number p or "none" with the items taken, by the operator's algorithm
 abbrev pub takenBy : Option Op → List (List Stretch) → ℕ → algorithm.Taken

@@ -1,13 +1,13 @@
 // The queue of document 001's Algorithms 1 to 3 over lent lists, of each of which only the number of items taken is kept.
 use crate::refusals::wide;
 ghost use mathlib.Core.Path.{_≡_};
-ghost use Prim.Native.Nat.{_+_, _-_, _≤_, _<_, min, max};
+ghost use Prim.Native.Nat.{_+_, _-_, _<_, min, max};
 ghost use mathlib.Core.List.{[]};
 ghost use lib.ListN.{length, take, getD};
 ghost use Rattle.stretches.specs.Front.{None, nth};
-ghost use Rattle.stretches.specs.Taking.{leads, top, topIndex, join, span, contains, advance};
-ghost use Rattle.meaning.specs.Lent.{listsOf};
-ghost use Rattle.lists.specs.Queue.{frontOf, orderOf, viewOf, startAt, Lent, queue, betterOf, Topped, Moved};
+ghost use Rattle.stretches.specs.Taking.{leads, join, span, contains, advance};
+ghost use Rattle.meaning.specs.Lent.{listsOf, startOf};
+ghost use Rattle.lists.specs.Queue.{frontOf, orderOf, Lent, queue, betterOf, Topped, Moved};
 
 // The item of a list that was taken last; not found: its end mark.
 pub struct Item {
@@ -22,7 +22,7 @@ pub struct Top {
     pub list: usize,
 }
 
-pub fn nothing() -> Item
+pub(crate) fn nothing() -> Item
     ensures { λ r. ⌜ frontOf r ≡ None ⌝ }
 {
     Item {
@@ -45,7 +45,7 @@ fn less_one(k: u32) -> usize
 // The place where list i starts.
 fn start_of(ends: &[u32], i: usize) -> usize
     requires { ⌜ i < length (now ends) ⌝ }
-    ensures { λ r. ⌜ (r ≡ startAt (now (ends .entry)) i) × (r < 4294967296) ⌝ }
+    ensures { λ r. ⌜ (r ≡ startOf (now (ends .entry)) i) × (r < 4294967296) ⌝ }
 {
     if i == 0 {
         return 0;
@@ -113,7 +113,7 @@ fn better(by_end: bool, x: Item, i: usize, t: Top) -> Top
 }
 
 // The top of the queue.
-pub fn top_of(by_end: bool, items: &[u32], ends: &[u32], counts: &[u32]) -> Top
+pub(crate) fn top_of(by_end: bool, items: &[u32], ends: &[u32], counts: &[u32]) -> Top
     requires { ⌜ Lent (now items) (now ends) (now counts) ⌝ }
     ensures { λ r. ⌜ Topped «by_end» (queue (now (items .entry)) (now (ends .entry)) (now (counts .entry))) 0 r ⌝ }
 {
@@ -166,7 +166,7 @@ fn most(a: u32, b: u32) -> u32
 }
 
 // The span of the queue, found where it is full.
-pub fn span_of(items: &[u32], ends: &[u32], counts: &[u32]) -> Item
+pub(crate) fn span_of(items: &[u32], ends: &[u32], counts: &[u32]) -> Item
     requires { ⌜ Lent (now items) (now ends) (now counts) ⌝ }
     ensures { λ r. ⌜ frontOf r ≡ span (queue (now (items .entry)) (now (ends .entry)) (now (counts .entry))) ⌝ }
 {
@@ -185,7 +185,7 @@ pub fn span_of(items: &[u32], ends: &[u32], counts: &[u32]) -> Item
 }
 
 // Whether c lies in x.
-pub fn contains(x: Item, c: Item) -> bool
+pub(crate) fn contains(x: Item, c: Item) -> bool
     ensures { λ r. ⌜ r ≡ contains (frontOf x) (frontOf c) ⌝ }
 {
     if !x.found {
@@ -201,7 +201,7 @@ pub fn contains(x: Item, c: Item) -> bool
 }
 
 // Takes one more item of the list with the top item.
-pub fn advance(by_end: bool, items: &[u32], ends: &[u32], counts: &mut [u32])
+pub(crate) fn advance(by_end: bool, items: &[u32], ends: &[u32], counts: &mut [u32])
     requires { ⌜ Lent (now items) (now ends) (now counts) ⌝ }
     ensures { λ _. ⌜ Moved (length (now (ends .entry))) (advance (orderOf «by_end») (listsOf (now (items .entry)) (now (ends .entry))) (take (length (now (ends .entry))) (now (counts .entry)))) (now (counts .entry)) (now (counts .exit)) ⌝ }
 {

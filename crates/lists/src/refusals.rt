@@ -3,11 +3,11 @@ ghost use mathlib.Core.Path.{_≡_};
 ghost use mathlib.Core.Bool.{false};
 ghost use Prim.Native.Nat.{_+_, _-_, _≤_, _<_};
 ghost use lib.ListN.{length, take, drop};
-ghost use Rattle.meaning.specs.Lent.{pairs, listsOf, takesLists, takesBound, miscalled, mistaken, miscut, disorderedList, disordered};
-ghost use Rattle.lists.specs.Refusals.{listsRefusal, takingRefusal};
+ghost use Rattle.meaning.specs.Lent.{pairs, listsOf};
+ghost use Rattle.meaning.specs.Refusals.{takesLists, takesBound, miscalled, mistaken, miscut, disorderedList, disordered, listsRefusal, takingRefusal};
 
 // A number of a lent run, as a place or a position.
-pub fn wide(x: u32) -> usize
+pub(crate) fn wide(x: u32) -> usize
     ensures { λ r. ⌜ (r ≡ x) × (r < 4294967296) ⌝ }
 {
     x as usize
@@ -146,7 +146,7 @@ fn disordered(items: &[u32], ends: &[u32]) -> bool
 }
 
 // The refusal of a filling call, 0 where it is accepted.
-pub fn refusal(op: u32, k: u32, items: &[u32], ends: &[u32]) -> usize
+pub(crate) fn refusal(op: u32, k: u32, items: &[u32], ends: &[u32]) -> usize
     ensures { λ r. ⌜ r ≡ listsRefusal op k (now (items .entry)) (now (ends .entry)) ⌝ }
 {
     if miscalled(op, k, ends) {
@@ -162,7 +162,7 @@ pub fn refusal(op: u32, k: u32, items: &[u32], ends: &[u32]) -> usize
 }
 
 // The refusal of a taking call, 0 where it is accepted.
-pub fn taking_refusal(op: u32, items: &[u32], ends: &[u32], counts: &[u32]) -> usize
+pub(crate) fn taking_refusal(op: u32, items: &[u32], ends: &[u32], counts: &[u32]) -> usize
     ensures { λ r. ⌜ r ≡ takingRefusal op (now (items .entry)) (now (ends .entry)) (now (counts .entry)) ⌝ }
 {
     if mistaken(op, ends, counts) {

@@ -17,7 +17,7 @@ fn first(op: usize, k: usize, n: usize) -> usize
 }
 
 // The operator at node 0, and leaf i at node i + 1.
-pub fn table(op: usize, k: usize, n: usize) -> [usize; 128]
+pub(crate) fn table(op: usize, k: usize, n: usize) -> [usize; 128]
     requires { ⌜ n ≤ 31 ⌝ }
     ensures { λ r. ⌜ Laid op k n n r ⌝ }
 {

@@ -109,7 +109,13 @@ fn begin(counts: &mut [u32], n: usize)
 }
 
 // Answer number `number`, or none.
-pub fn run(by_end: bool, items: &[u32], ends: &[u32], counts: &mut [u32], number: usize) -> Item
+pub(crate) fn run(
+    by_end: bool,
+    items: &[u32],
+    ends: &[u32],
+    counts: &mut [u32],
+    number: usize,
+) -> Item
     requires { ⌜ Lent (now items) (now ends) (now counts) ⌝ }
     ensures { λ r. ⌜ Handed (length (now (ends .entry))) (taking (opOf «by_end») (listsOf (now (items .entry)) (now (ends .entry))) number) (now (counts .entry)) (now (counts .exit)) r ⌝ }
 {

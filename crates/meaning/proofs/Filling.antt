@@ -1,15 +1,14 @@
 -- Laws of filling: what stands in the cells is the written answers, and a call from number 0 that says "done" has written the whole list.
 -- Assumes nothing.
-use Prim.Native.Nat.{ℕ, suc, _+_, _*_, _/_, _≤_, _<_}
-use mathlib.Core.Path.{_≡_, refl, sym, ap, _∙_}
-use mathlib.Core.Bool.{Bool, true, false}
-use mathlib.Core.List.{List, [], _∷_, _++_}
+use Prim.Native.Nat.{ℕ, _+_, _*_, _≤_}
+use mathlib.Core.Path.{_≡_, refl, ap, _∙_}
+use mathlib.Core.Bool.{false}
+use mathlib.Core.List.{List, [], _∷_}
 use lib.ListN.{length, take, drop, length-take}
 use lib.Seq.{take-all, take-at}
-use lib.Dec.{ltb}
 use borrow.Author.Tests.{ltb-false, le-ltb}
 use native.Mathlib.Omega.{arith}
-use Rattle.stretches.specs.Stretch.{Stretch, st}
+use Rattle.stretches.specs.Stretch.{Stretch}
 use Rattle.meaning.specs.Filling.{flat, pairsIn, written, filled, moreAfter}
 use Rattle.meaning.specs.Lent.{pairs}
 

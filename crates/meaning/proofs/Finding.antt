@@ -1,6 +1,6 @@
 -- Laws of the refusals and of the list of a pattern in a log: each refusal by its cause, the list where both are accepted, that 9 never comes,
 -- and the undamaged run for that list. Assumes nothing.
-use Prim.Native.Nat.{ℕ, _+_, _≤_, _<_}
+use Prim.Native.Nat.{ℕ, _≤_, _<_}
 use mathlib.Core.Path.{_≡_, refl, sym, ap, ap₂, _∙_}
 use mathlib.Core.Bool.{Bool, true, false, cond}
 use mathlib.Core.List.{List, [], _++_}
@@ -8,7 +8,6 @@ use lib.ListN.{length, length-append}
 use lib.Dec.{ltb, eqb}
 use borrow.Author.Tests.{ltb-true, ltb-false, lt-ltb, le-ltb, eqb-true}
 use native.Mathlib.Omega.{arith}
-use Rattle.stretches.specs.Stretch.{Stretch}
 use Rattle.stretches.specs.Run.{cut}
 use Rattle.event_log.specs.Lines.{lines, Whole}
 use Rattle.event_log.specs.Reading.{says}

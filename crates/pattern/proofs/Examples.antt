@@ -3,8 +3,9 @@
 use mathlib.Core.Path.{_≡_, refl}
 use mathlib.Core.List.{[], _∷_}
 use Rattle.pattern.specs.Pattern.{Ev, Then, Node, Nil, Cons}
-use Rattle.pattern.specs.Automaton.{symbol, child, wordAt, step, finish, scan}
+use Rattle.pattern.specs.Automaton.{child, wordAt, step, finish, scan}
 use Rattle.pattern.specs.Reading.{build, outcomeOf, Accepts}
+use Rattle.pattern.specs.Rows.{symbol}
 use Rattle.pattern.proofs.Trees.{Misread, reading}
 
 -- or,1,ev,1,0

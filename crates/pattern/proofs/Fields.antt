@@ -1,6 +1,6 @@
 -- The kinds of symbols and their fields: spelling, ranges and the number of operands, by the kind's number.
 -- Assumes nothing.
-use Prim.Native.Nat.{ℕ, zero, suc, _+_, _-_, _≤_, _<_}
+use Prim.Native.Nat.{ℕ, zero, suc, _+_, _≤_, _<_}
 use mathlib.Core.Path.{_≡_, refl, sym, subst}
 use mathlib.Core.Bool.{true, cond}
 use mathlib.Core.Logic.{_⊎_, inl, inr}
@@ -10,8 +10,8 @@ use borrow.Author.Tests.{eqb-true}
 use native.Mathlib.Omega.{arith}
 use Rattle.pattern.specs.Decimal.{decimal}
 use Rattle.pattern.specs.Pattern.{Symbol, Ev, Fr, Or, And, Row, Then, Less, Max, listed, spellSymbol, Ranged, InRange, rank}
-use Rattle.pattern.specs.Automaton.{symbol, fieldCount, low, high, arity, firstField, secondField, kinds, among}
-use Rattle.pattern.specs.Rows.{kindOf, firstOf, secondOf}
+use Rattle.pattern.specs.Automaton.{fieldCount, low, high, arity, firstField, secondField, kinds, among}
+use Rattle.pattern.specs.Rows.{kindOf, firstOf, secondOf, symbol}
 use Rattle.pattern.proofs.Basics.{cases, or-true}
 use Rattle.pattern.proofs.Words.{wordOf, Kind}
 

@@ -1,11 +1,11 @@
 -- The loop over the text: what its variables hold, and how a turn keeps it.
 -- Assumes nothing.
-use Prim.Native.Nat.{ℕ, zero, suc, _+_, _-_, _*_, _≤_, _<_}
+use Prim.Native.Nat.{ℕ, suc, _+_, _-_, _*_, _≤_, _<_}
 use mathlib.Core.Path.{_≡_, refl, sym, ap, ap₂, subst, _∙_}
 use mathlib.Core.Bool.{Bool, true, false, cond}
 use mathlib.Core.List.{List, [], _∷_, _++_, map, append-assoc}
 use lib.Dec.{leb, ltb, eqb}
-use lib.ListN.{length, getD, drop, set, replicate, length-append}
+use lib.ListN.{length, getD, drop, set, replicate, length-append, drop-of-length-le}
 use lib.Seq.{drop-cons}
 use borrow.Author.Tests.{ltb-false, lt-ltb}
 use native.Mathlib.Numerals.{add-one}
@@ -16,8 +16,8 @@ use Rattle.pattern.specs.declared.State.the-variants.{Letters, Field, Di
 use Rattle.pattern.specs.declared.Scanned.{Scanned}
 use Rattle.pattern.specs.declared.Step.{Step}
 use Rattle.pattern.specs.declared.Step.the-variants.{Dead, Within, Closed}
-use Rattle.pattern.specs.Automaton.{symbol, fieldCount, low, arity, firstField, secondField, step, Bounded, final, endOf, Scan, Stop, Whole, later, after, last, finish, go, scan, putAt, Columns, Tells}
-use Rattle.pattern.specs.Rows.{kindOf, firstOf, secondOf, padded}
+use Rattle.pattern.specs.Automaton.{fieldCount, low, arity, firstField, secondField, step, Bounded, final, endOf, Scan, Stop, Whole, later, after, last, finish, go, scan, putAt, Columns, Tells}
+use Rattle.pattern.specs.Rows.{kindOf, firstOf, secondOf, padded, symbol}
 use Rattle.pattern.proofs.Basics.{cases}
 use Rattle.pattern.proofs.Fields.{Named, named-last, field-small, earlier-small, rank-small}
 use Rattle.pattern.proofs.Scanning.{Held, need, After, Went, Shut, step-after}
@@ -170,13 +170,6 @@ module _ (text ks xs ys : List ℕ) (count : ℕ) (s : State) (i b : ℕ) (v : S
 
 -- ── The end of the text ──
 
--- nothing is left past the end
-drop-all : (l : List ℕ) (i : ℕ) → length l ≤ i → drop i l ≡ []
-drop-all [] zero h = refl
-drop-all [] (suc i) h = refl
-drop-all (x ∷ l) zero h = absurd (omega arith)
-drop-all (x ∷ l) (suc i) h = drop-all l i (omega arith)
-
 -- the text is read whole, and its symbols are in the columns
 pub record Ended (text ks xs ys : List ℕ) (count : ℕ) : Type 0 where
   pub symbols : List Symbol
@@ -207,7 +200,7 @@ ends (Digits k j a v n) h =
 module _ (text ks xs ys : List ℕ) (count : ℕ) (s : State) (i : ℕ) (v : Scanning text ks xs ys count s i) (l : length text ≤ i) where
   at-end : scan text (Letters 0 1) ≡ resume i (v .done) (finish s)
   unfolding scan
-  at-end = v .rest ∙ ap (λ (w : List ℕ). resume i (v .done) (scan w s)) (drop-all text i l)
+  at-end = v .rest ∙ ap (λ (w : List ℕ). resume i (v .done) (scan w s)) (drop-of-length-le text {i = i} l)
 
   pub end-dead : (t : Step) → t ≡ endOf s → t ≡ Dead → scan text (Letters 0 1) ≡ Stop i
   end-dead t q d = let g : finish s ≡ Stop 0 = subst (Ends (finish s)) (sym q ∙ d) (ends s (v .held)) in at-end ∙ (ap (resume i (v .done)) g ∙ ap Stop (omega arith))

@@ -1,6 +1,6 @@
 -- What a scan says of a text: read on from a state, the symbols it makes, or up to where it goes on to a pattern; by induction on the text.
 -- Assumes nothing.
-use Prim.Native.Nat.{ℕ, _+_, _-_, _≤_}
+use Prim.Native.Nat.{ℕ, _+_, _≤_}
 use mathlib.Core.Path.{_≡_, sym, ap, ap₂, _∙_}
 use mathlib.Core.Bool.{cond}
 use mathlib.Core.List.{List, [], _∷_, _++_, append-nil, append-assoc}
@@ -14,7 +14,8 @@ use Rattle.pattern.specs.declared.State.{State}
 use Rattle.pattern.specs.declared.State.the-variants.{Letters, Field, Digits}
 use Rattle.pattern.specs.declared.Step.{Step}
 use Rattle.pattern.specs.declared.Step.the-variants.{Dead, Within, Closed}
-use Rattle.pattern.specs.Automaton.{symbol, fieldCount, low, arity, firstField, secondField, step, Scan, Stop, Whole, later, after, last, finish, go, scan}
+use Rattle.pattern.specs.Automaton.{fieldCount, low, arity, firstField, secondField, step, Scan, Stop, Whole, later, after, last, finish, go, scan}
+use Rattle.pattern.specs.Rows.{symbol}
 use Rattle.pattern.proofs.Basics.{cases}
 use Rattle.pattern.proofs.Fields.{rank-arity, lead, spelt-last, ranged-last}
 use Rattle.pattern.proofs.Scanning.{afters, joined, Counts, AllRanged, need, pending, InField, Held, Went, Shut, After, step-after, Completes, completes}

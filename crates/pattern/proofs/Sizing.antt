@@ -3,7 +3,7 @@
 use Prim.Native.Nat.{ℕ, zero, suc, _+_, _-_, _≤_, _<_, max}
 use mathlib.Core.Path.{_≡_, refl, sym, ap, ap₂, subst, _∙_}
 use mathlib.Core.List.{List, [], _∷_, _++_, map, append-nil}
-use lib.ListN.{length, getD, drop, set, replicate, length-drop, length-set, List·getD-append}
+use lib.ListN.{length, getD, drop, set, replicate, length-drop, length-set, List·getD-append, drop-of-length-le}
 use native.Mathlib.Omega.{arith}
 use Rattle.pattern.specs.Pattern.{Symbol, Ev, Fr, Or, And, Row, Then, Less, Max, rank, Pattern, Patterns, Nil, Cons, count, nodes, nodesOf, depth, deepest, preorder, sizes, sizesOf}
 use Rattle.pattern.specs.Automaton.{arity, Encodes, Measured}
@@ -56,13 +56,6 @@ drop-replicate zero n = let z : n ≡ n - 0 = omega arith in ap (λ (m : ℕ). r
 drop-replicate (suc v) zero = ap (λ (m : ℕ). replicate m 0) (let z : 0 ≡ 0 - suc v = omega arith in z)
 drop-replicate (suc v) (suc n) = let z : n - v ≡ suc n - suc v = omega arith in drop-replicate v n ∙ ap (λ (m : ℕ). replicate m 0) z
 
--- nothing is left past the end
-drop-all : (l : List Symbol) (i : ℕ) → length l ≤ i → drop i l ≡ []
-drop-all [] zero h = refl
-drop-all [] (suc i) h = refl
-drop-all (x ∷ l) zero h = absurd (omega arith)
-drop-all (x ∷ l) (suc i) h = drop-all l i (omega arith)
-
 -- a store at the place where a part begins
 drop-set : (l : List ℕ) (w x : ℕ) → w < length l → drop w (set l w x) ≡ x ∷ drop (suc w) l
 drop-set [] w x h = absurd (omega arith)
@@ -112,7 +105,7 @@ module _ (ks xs : List ℕ) (count′ : ℕ) (e : Encodes ks xs count′) where
   }
     where
       none : drop count′ (preorder (e .tree)) ≡ []
-      none = drop-all (preorder (e .tree)) count′ (omega (arith, length-preorder (e .tree), e .counted))
+      none = drop-of-length-le (preorder (e .tree)) {i = count′} (omega (arith, length-preorder (e .tree), e .counted))
 
   pub inner-begin : (v w m : ℕ) → v ≤ count′ → v ≡ suc w → m ≡ arity (getD ks w 0) (getD xs w 0) → Inner v w v 0 m
   unfolding forest build

@@ -1,6 +1,6 @@
 -- The trie of words: what has been read at a node, and how it goes on.
 -- Assumes nothing.
-use Prim.Native.Nat.{ℕ, zero, suc, _+_, _-_, _<_}
+use Prim.Native.Nat.{ℕ, zero, suc, _+_, _<_}
 use mathlib.Core.Path.{_≡_, refl, sym, ap, ap₂, _∙_}
 use mathlib.Core.Bool.{Bool, true, false, cond, _&&_, _||_}
 use mathlib.Core.Logic.{_⊎_, inl, inr}
@@ -10,7 +10,8 @@ use lib.ListN.{length, getD, take, drop, take-append-drop}
 use borrow.Author.Tests.{eq-eqb, eqb-true, eqb-false}
 use native.Mathlib.Omega.{arith}
 use Rattle.pattern.specs.Pattern.{word}
-use Rattle.pattern.specs.Automaton.{kinds, among, symbol, parents, letters, match, child, wordAt}
+use Rattle.pattern.specs.Automaton.{kinds, among, parents, letters, match, child, wordAt}
+use Rattle.pattern.specs.Rows.{symbol}
 use Rattle.pattern.proofs.Basics.{cases, and-true, true-and, or-true}
 
 -- what a table's rule says, tested at each place below n

@@ -7,8 +7,8 @@ use mathlib.Core.Bool.{Bool, true, false, not, cond, _&&_, _||_}
 use mathlib.Core.List.{List, [], _∷_, map}
 use lib.Dec.{leb, ltb, eqb}
 use lib.ListN.{length, getD, set}
-use Rattle.pattern.specs.Pattern.{Symbol, Ev, Fr, Or, And, Row, Then, Less, Max, Pattern, WellFormed, nodes, depth, preorder, sizes}
-use Rattle.pattern.specs.Rows.{kindOf, firstOf, secondOf, padded}
+use Rattle.pattern.specs.Pattern.{Symbol, Pattern, WellFormed, nodes, depth, preorder, sizes}
+use Rattle.pattern.specs.Rows.{kindOf, firstOf, secondOf, symbols, symbol, padded}
 use Rattle.pattern.specs.declared.State.{State}
 use Rattle.pattern.specs.declared.State.the-variants.{Letters, Field, Digits}
 use Rattle.pattern.specs.declared.Scanned.{Scanned}
@@ -20,19 +20,12 @@ use Rattle.pattern.specs.declared.Step.the-variants.{Dead, Within, Close
 
 -- the kinds of symbols
 abbrev pub kinds : List ℕ
-kinds = 1 ∷ 2 ∷ 3 ∷ 4 ∷ 5 ∷ 6 ∷ 16 ∷ 17 ∷ []
+kinds = map kindOf (symbols 0 0)
 
 -- k is one of the numbers
 abbrev pub among : ℕ → List ℕ → Bool
 among k [] = false
 among k (n ∷ ns) = eqb k n || among k ns
-
--- the symbol of a kind with its two numbers
-unfoldable pub symbol : ℕ → ℕ → ℕ → Symbol
-symbol k a b =
-    cond (eqb k 1) (Or a)
-    (cond (eqb k 2) (And a)
-    (cond (eqb k 3) (Row a) (cond (eqb k 4) (Then a) (cond (eqb k 5) Less (cond (eqb k 6) (Max a) (cond (eqb k 16) (Ev a b) (Fr a b)))))))
 
 -- how many numbers follow the word
 abbrev pub fieldCount : ℕ → ℕ

@@ -2,8 +2,10 @@
 -- Assumes nothing.
 use Prim.Native.Nat.{ℕ, _+_, _-_}
 use mathlib.Core.Path.{_≡_, refl}
+use mathlib.Core.Bool.{cond}
 use mathlib.Core.List.{List, [], _∷_, _++_, map}
 use lib.ListN.{length, getD, replicate}
+use lib.Dec.{eqb}
 use Rattle.pattern.specs.Pattern.{Symbol, Ev, Fr, Or, And, Row, Then, Less, Max, Pattern, Patterns, Node, Nil, Cons, nodes, preorder, sizes}
 
 -- ── A node's numbers ──
@@ -40,6 +42,19 @@ secondOf (Row n) = 0
 secondOf (Then n) = 0
 secondOf Less = 0
 secondOf (Max k) = 0
+
+-- the symbols of all kinds, with a first number and a second one
+abbrev pub symbols : ℕ → ℕ → List Symbol
+symbols a b = Or a ∷ And a ∷ Row a ∷ Then a ∷ Less ∷ Max a ∷ Ev a b ∷ Fr a b ∷ []
+
+-- the first of these symbols that has the kind; h where none has
+abbrev pub ofKind : ℕ → Symbol → List Symbol → Symbol
+ofKind k h [] = h
+ofKind k h (x ∷ xs) = cond (eqb k (kindOf x)) x (ofKind k h xs)
+
+-- the symbol of a kind with its two numbers
+unfoldable pub symbol : ℕ → ℕ → ℕ → Symbol
+symbol k a b = ofKind k (Fr a b) (symbols a b)
 
 -- ── The table ──
 

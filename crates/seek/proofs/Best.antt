@@ -12,7 +12,9 @@ use Rattle.stretches.specs.Front as fronts
 use Rattle.stretches.specs.Front.{None, At, firstFrom}
 use Rattle.stretches.proofs.Lists.{cases, st-path}
 use Rattle.stretches.proofs.Answers.{AllRising}
-use Rattle.stretches.proofs.Fronts.{better, bestFront, wins, wins-true, wins-false, or-front}
+use Rattle.stretches.proofs.Fronts.{better, bestFront, or-front}
+use Rattle.stretches.proofs.Orders.{ends-true, ends-false}
+use Rattle.stretches.specs.Taking.{endsFirst}
 use Rattle.seek.specs.declared.Front.{Front}
 use Rattle.seek.specs.Moves.{pickF, atF, noneF, betterOf}
 use Rattle.seek.specs.Seek.{front}
@@ -22,47 +24,47 @@ better-is : (g h : fronts.Front) → betterOf (front g) (front h) ≡ front (bet
 unfolding betterOf
 better-is None h = refl
 better-is (At x) None = refl
-better-is (At x) (At y) = go (ltb (y .end) (x .end)) refl (ltb (x .end) (y .end)) refl (ltb (x .start) (y .start)) refl (wins x y) refl
+better-is (At x) (At y) = go (ltb (y .end) (x .end)) refl (ltb (x .end) (y .end)) refl (ltb (x .start) (y .start)) refl (endsFirst x y) refl
   where
-    go : (a : Bool) → ltb (y .end) (x .end) ≡ a → (b : Bool) → ltb (x .end) (y .end) ≡ b → (c : Bool) → ltb (x .start) (y .start) ≡ c → (w : Bool) → wins x y ≡ w
+    go : (a : Bool) → ltb (y .end) (x .end) ≡ a → (b : Bool) → ltb (x .end) (y .end) ≡ b → (c : Bool) → ltb (x .start) (y .start) ≡ c → (w : Bool) → endsFirst x y ≡ w
         → pickF a (atF (y .start) (y .end)) (pickF b (atF (x .start) (x .end)) (pickF c (atF (y .start) (y .end)) (atF (x .start) (x .end)))) ≡ front (cond w (At x) (At y))
-    go true p b q c i true j = absurd (omega (arith, ltb-true (y .end) (x .end) p, wins-true x y j .0))
+    go true p b q c i true j = absurd (omega (arith, ltb-true (y .end) (x .end) p, ends-true x y j .0))
     go true p b q c i false j = refl
     go false p true q c i true j = refl
-    go false p true q c i false j = absurd (omega (arith, ltb-true (x .end) (y .end) q, wins-false x y j .0))
+    go false p true q c i false j = absurd (omega (arith, ltb-true (x .end) (y .end) q, ends-false x y j .0))
     go false p false q true i true j =
-        absurd (omega (arith, ltb-true (x .start) (y .start) i, wins-true x y j .1 (omega (arith, ltb-false (y .end) (x .end) p, ltb-false (x .end) (y .end) q))))
+        absurd (omega (arith, ltb-true (x .start) (y .start) i, ends-true x y j .1 (omega (arith, ltb-false (y .end) (x .end) p, ltb-false (x .end) (y .end) q))))
     go false p false q true i false j = refl
     go false p false q false i true j = refl
     go false p false q false i false j =
         let e : x .end ≡ y .end = omega (arith, ltb-false (y .end) (x .end) p, ltb-false (x .end) (y .end) q) in
-        ap (λ (z : Stretch). atF (z .start) (z .end)) (st-path x y (omega (arith, ltb-false (x .start) (y .start) i, wins-false x y j .1 e)) e)
+        ap (λ (z : Stretch). atF (z .start) (z .end)) (st-path x y (omega (arith, ltb-false (x .start) (y .start) i, ends-false x y j .1 e)) e)
 
 better-assoc : (f g h : fronts.Front) → better (better f g) h ≡ better f (better g h)
 better-assoc None g h = refl
 better-assoc (At x) None h = refl
-better-assoc (At x) (At y) None = cases (wins x y) (λ b. better (cond b (At x) (At y)) None ≡ cond b (At x) (At y)) (λ k. refl) (λ k. refl)
-better-assoc (At x) (At y) (At z) = go (wins x y) refl (wins y z) refl (wins x z) refl
+better-assoc (At x) (At y) None = cases (endsFirst x y) (λ b. better (cond b (At x) (At y)) None ≡ cond b (At x) (At y)) (λ k. refl) (λ k. refl)
+better-assoc (At x) (At y) (At z) = go (endsFirst x y) refl (endsFirst y z) refl (endsFirst x z) refl
   where
     ends : x .start ≡ z .start → x .end ≡ z .end → At x ≡ At z
     ends p q = ap At (st-path x z p q)
 
-    go : (a : Bool) → wins x y ≡ a → (b : Bool) → wins y z ≡ b → (c : Bool) → wins x z ≡ c
+    go : (a : Bool) → endsFirst x y ≡ a → (b : Bool) → endsFirst y z ≡ b → (c : Bool) → endsFirst x z ≡ c
         → better (cond a (At x) (At y)) (At z) ≡ better (At x) (cond b (At y) (At z))
     go true p true q true i = ap (λ c. cond c (At x) (At z)) i ∙ sym (ap (λ c. cond c (At x) (At y)) p)
     go true p true q false i =
-        let u = wins-true x y p in
-        let v = wins-true y z q in
-        let w = wins-false x z i in
+        let u = ends-true x y p in
+        let v = ends-true y z q in
+        let w = ends-false x z i in
         let e : x .end ≡ z .end = omega (arith, u .0, v .0, w .0) in
         let s : x .start ≡ z .start = omega (arith, w .1 e, u .1 (omega (arith, u .0, v .0)), v .1 (omega (arith, u .0, v .0))) in
         ap (λ c. cond c (At x) (At z)) i ∙ (sym (ends s e) ∙ sym (ap (λ c. cond c (At x) (At y)) p))
     go true p false q c i = refl
     go false p true q c i = ap (λ c. cond c (At y) (At z)) q ∙ sym (ap (λ c. cond c (At x) (At y)) p)
     go false p false q true i =
-        let u = wins-false x y p in
-        let v = wins-false y z q in
-        let w = wins-true x z i in
+        let u = ends-false x y p in
+        let v = ends-false y z q in
+        let w = ends-true x z i in
         let e : x .end ≡ z .end = omega (arith, u .0, v .0, w .0) in
         let s : x .start ≡ z .start = omega (arith, w .1 e, u .1 (omega (arith, u .0, v .0)), v .1 (omega (arith, u .0, v .0))) in
         ap (λ c. cond c (At y) (At z)) q ∙ (sym (ends s e) ∙ sym (ap (λ c. cond c (At x) (At z)) i))

@@ -1,33 +1,34 @@
 -- A leaf over either source: a matching line is a front of the leaf's list, a cursor stays true, and each return of a leaf is one law.
 -- Assumes nothing.
 use mathlib.Core.Path.{_≡_, refl, sym, ap, subst, subst₂, _∙_}
-use mathlib.Core.Logic.{_⊎_, _≢_, inl, ⊎-elim}
+use mathlib.Core.Logic.{_⊎_, _≢_, ⊎-elim}
 use mathlib.Core.Bool.{true, false, cond}
-use mathlib.Core.List.{List, [], _∷_, map}
-use Prim.Native.Nat.{ℕ, zero, suc, _+_, _≤_, _<_}
+use mathlib.Core.List.{List, [], map}
+use Prim.Native.Nat.{ℕ, _+_, _≤_, _<_}
 use native.Mathlib.Omega.{arith}
 use lib.ListN.{length, getD, set, length-set}
 use lib.Seq.{getD-set-same, getD-set-other}
 use borrow.Author.Tests.{eq-eqb, ne-eqb}
 use Rattle.stretches.specs.Stretch.{Stretch, Rising, marks}
 use Rattle.stretches.specs.Front.{firstFrom}
-use Rattle.stretches.proofs.Lists.{le-or-lt, eq-or-ne}
+use Rattle.stretches.proofs.Lists.{eq-or-ne}
 use Rattle.event_log.specs.Lines.{Cursor}
 use Rattle.event_log.specs.Reading.{says}
 use Rattle.event_log.proofs.LinesLaws.{cursor-start}
 use Rattle.pattern.specs.Pattern.{Symbol}
 use Rattle.pattern.specs.Rows.{kindAt, firstAt, secondAt, firstOf}
 use Rattle.meaning.specs.Meaning.{matches}
-use Rattle.meaning.specs.Lent.{listsFrom, listsOf}
+use Rattle.meaning.specs.Lent.{listsOf}
+use Rattle.meaning.proofs.Lent.{lists-at}
 use Rattle.seek.specs.declared.Front.{Front}
 use Rattle.seek.specs.declared.lines.LineFound.{LineFound}
 use Rattle.seek.specs.Moves.{atF, noneF}
 use Rattle.seek.specs.Source.{Source, source, leafOf}
 use Rattle.seek.specs.Seek.{front, Cursors}
 use Rattle.seek.specs.Lines.{NextLine}
-use Rattle.seek.specs.Leaves.{part, startOf, listOf, Hinted, ListFound, LineSought, LeafFound}
+use Rattle.seek.specs.Leaves.{listOf, Hinted, ListFound, LineSought, LeafFound}
 use Rattle.seek.proofs.LineWalk.{hit-front, missed-front}
-use Rattle.seek.proofs.ListLaws.{hinted-set, list-none-there}
+use Rattle.seek.proofs.ListLaws.{hinted-set}
 
 -- ── A log ──
 
@@ -91,35 +92,16 @@ pub over-lists : (src : Source) (h : Symbol) → (length (src .ends) ≡ 0 → �
 unfolding leafOf
 over-lists src h e = ap (λ b. cond b (marks 0 (map (matches h) (says (src .log)))) (getD (listsOf (src .items) (src .ends)) (firstOf h) [])) (ne-eqb (length (src .ends)) 0 e)
 
--- list k of the lent lists, by its places
-lists-from : (i : ℕ) (items ends : List ℕ) (k : ℕ) → k < length ends → getD (listsFrom i items ends) k [] ≡ part items (startOf (i ∷ ends) (suc k)) (getD ends k 0)
-unfolding part
-lists-from i items [] k lt = absurd (omega arith)
-lists-from i items (e ∷ ends) zero lt = refl
-lists-from i items (e ∷ ends) (suc k) lt = lists-from e items ends k (omega arith)
-
-pub lists-out : (i : ℕ) (items ends : List ℕ) (k : ℕ) → length ends ≤ k → getD (listsFrom i items ends) k [] ≡ []
-lists-out i items [] k le = refl
-lists-out i items (e ∷ ends) zero le = absurd (omega arith)
-lists-out i items (e ∷ ends) (suc k) le = lists-out e items ends k (omega arith)
-
-start-is : (ends : List ℕ) (k : ℕ) → startOf (0 ∷ ends) (suc k) ≡ startOf ends k
-start-is ends zero = refl
-start-is ends (suc k) = refl
-
-lists-at : (items ends : List ℕ) (k : ℕ) → getD (listsOf items ends) k [] ≡ listOf items ends k
+list-is : (items ends : List ℕ) (k : ℕ) → getD (listsOf items ends) k [] ≡ listOf items ends k
 unfolding listOf
-lists-at items ends k = ⊎-elim
-    (λ (le : length ends ≤ k). lists-out 0 items ends k le ∙ sym (list-none-there items ends k (inl le)))
-    (λ (lt : k < length ends). lists-from 0 items ends k lt ∙ ap (λ (i : ℕ). part items i (getD ends k 0)) (start-is ends k))
-    (le-or-lt (length ends) k)
+list-is items ends k = lists-at items ends k
 
 pub leaf-list : {rows log items ends : List ℕ} {v t : ℕ} {s : List ℕ} {r : Front} {s' : List ℕ} → (length ends ≡ 0 → ⊥) → ListFound items ends (firstAt rows v) t s r s'
     → LeafFound rows (source log items ends) v t s r s'
 leaf-list {rows} {log} {items} {ends} {v} {t} some l = record {
   is = λ h n e good wide cur.
       let z : leafOf (source log items ends) h ≡ listOf items ends (firstAt rows v) =
-      over-lists (source log items ends) h some ∙ (lists-at items ends (firstOf h) ∙ ap (listOf items ends) (sym (e .first))) in
+      over-lists (source log items ends) h some ∙ (list-is items ends (firstOf h) ∙ ap (listOf items ends) (sym (e .first))) in
       (l .is (subst Rising z (good .up h)) (good .inside) ∙ ap (λ (m : List Stretch). front (firstFrom m t)) (sym z), λ none. absurd (some none));
   hinted = l .hinted;
 }

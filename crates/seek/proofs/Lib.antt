@@ -12,4 +12,3 @@ mod LeafLaws
 pub mod Sources
 pub mod Walk
 mod Written
-pub mod Whole

@@ -6,43 +6,20 @@ use mathlib.Core.Bool.{cond}
 use mathlib.Core.List.{List, [], _∷_}
 use Prim.Native.Nat.{ℕ, zero, suc, _+_, _-_, _*_, _/_, _%_, _≤_, _<_}
 use native.Mathlib.Omega.{arith}
-use lib.ListN.{length, getD, set, take, drop, length-set}
-use lib.Seq.{drop-cons, getD-set-other}
+use lib.ListN.{length, getD, set, length-set}
+use lib.Seq.{getD-set-other}
 use borrow.Author.Tests.{le-leb, lt-leb}
 use Rattle.stretches.specs.Stretch.{Stretch, st, In, Rising}
 use Rattle.stretches.specs.Front.{At, firstFrom}
-use Rattle.meaning.specs.Lent.{pairs}
+use Rattle.pattern.proofs.Basics.{getD-past}
+use Rattle.meaning.specs.Lent.{part, startOf}
+use Rattle.meaning.proofs.Lent.{part-cons, part-nil}
 use Rattle.seek.specs.declared.Front.{Front}
 use Rattle.seek.specs.Moves.{atF, noneF}
 use Rattle.seek.specs.Seek.{front}
-use Rattle.seek.specs.Leaves.{part, startOf, listOf, Resumed, Ran, Hinted, ListFound}
-
-pub start-after : (ends : List ℕ) (k : ℕ) → (k ≡ 0 → ⊥) → startOf ends k ≡ getD ends (k - 1) 0
-start-after ends zero n = absurd (n refl)
-start-after ends (suc k) n = let z : k ≡ suc k - 1 = omega arith in ap (λ (i : ℕ). getD ends i 0) z
+use Rattle.seek.specs.Leaves.{listOf, Resumed, Ran, Hinted, ListFound}
 
 -- ── A list from a place on ──
-
-part-cons : (items : List ℕ) (i h : ℕ) → i + 1 < h → h ≤ length items → part items i h ≡ st (getD items i 0) (getD items (i + 1) 0) ∷ part items (i + 2) h
-unfolding part
-part-cons items i h lt le =
-    let a : drop i items ≡ getD items i 0 ∷ drop (suc i) items = drop-cons items i 0 (omega arith) in
-    let b : drop (suc i) items ≡ getD items (suc i) 0 ∷ drop (suc (suc i)) items = drop-cons items (suc i) 0 (omega arith) in
-    let n : h - i ≡ suc (suc (h - (i + 2))) = omega arith in
-    let p : suc i ≡ i + 1 = omega arith in
-    let q : suc (suc i) ≡ i + 2 = omega arith in
-    ap₂ (λ (m : ℕ) (l : List ℕ). pairs (take m l)) n (a ∙ ap (λ (l : List ℕ). getD items i 0 ∷ l) b)
-    ∙ ap₂ (λ (j k : ℕ). st (getD items i 0) (getD items j 0) ∷ pairs (take (h - (i + 2)) (drop k items))) p q
-
-short-pairs : (n : ℕ) (l : List ℕ) → n ≤ 1 → pairs (take n l) ≡ []
-short-pairs zero l le = refl
-short-pairs (suc zero) [] le = refl
-short-pairs (suc zero) (x ∷ l) le = refl
-short-pairs (suc (suc n)) l le = absurd (omega arith)
-
-part-nil : (items : List ℕ) (i h : ℕ) → h ≤ i + 1 → part items i h ≡ []
-unfolding part
-part-nil items i h le = short-pairs (h - i) (drop i items) (omega arith)
 
 -- one that starts before t is passed
 part-pass : (items : List ℕ) (i h t : ℕ) → i + 1 < h → h ≤ length items → getD items i 0 < t → firstFrom (part items i h) t ≡ firstFrom (part items (i + 2) h) t
@@ -102,17 +79,11 @@ hinted-same = record { wide = refl; same = λ j lt. refl }
 pub hinted-set : (s : List ℕ) (i x : ℕ) → 128 ≤ i → Hinted s (set s i x)
 hinted-set s i x le = record { wide = simp length-set; same = λ j lt. let w : j ≢ i = λ e. omega arith in rw getD-set-other }
 
--- past the last place a list of numbers has 0
-out : (l : List ℕ) (i : ℕ) → length l ≤ i → getD l i 0 ≡ 0
-out [] i h = refl
-out (x ∷ l) zero h = absurd (omega arith)
-out (x ∷ l) (suc i) h = out l i (omega arith)
-
 -- no such list, or one with no place
 pub list-none-there : (items ends : List ℕ) (n : ℕ) → (length ends ≤ n) ⊎ (getD ends n 0 < startOf ends n) → listOf items ends n ≡ []
 unfolding listOf
 list-none-there items ends n no-list =
-    part-nil items (startOf ends n) (getD ends n 0) (⊎-elim (λ (h : length ends ≤ n). omega (arith, out ends n h)) (λ (h : getD ends n 0 < startOf ends n). omega arith) no-list)
+    part-nil items (startOf ends n) (getD ends n 0) (⊎-elim (λ (h : length ends ≤ n). omega (arith, getD-past ends n 0 h)) (λ (h : getD ends n 0 < startOf ends n). omega arith) no-list)
 
 pub list-empty : {items ends : List ℕ} {n t : ℕ} {s : List ℕ} {r : Front} → r ≡ noneF → (length ends ≤ n) ⊎ (getD ends n 0 < startOf ends n) → ListFound items ends n t s r s
 list-empty {items} {ends} {n} {t} e no-list =

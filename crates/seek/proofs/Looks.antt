@@ -68,50 +68,43 @@ data HullIs (t : ℕ) (ls : List (List Stretch)) (h : Look) : Look → Type 0 wh
   hull-none : ((u : List Stretch) → FrontsAt t ls u → ⊥) → HullIs t ls h noLook
   hull-some : {r : Look} (u : List Stretch) → FrontsAt t ls u → r .status ≡ 1 → r .start ≡ lowOf (h .start) u → r .end ≡ highOf (h .end) u → HullIs t ls h r
 
+-- no fronts of all lists where the first list has none, or the others have not
+no-fronts : (l : List Stretch) (ls : List (List Stretch)) (t : ℕ) → firstFrom l t ≡ None → (u : List Stretch) → FrontsAt t (l ∷ ls) u → ⊥
+no-fronts l ls t e [] f = f
+no-fronts l ls t e (a ∷ u) f = none-at a (sym e ∙ f .0)
+
+less-fronts : (l : List Stretch) (ls : List (List Stretch)) (t : ℕ) → ((u : List Stretch) → FrontsAt t ls u → ⊥) → (u : List Stretch) → FrontsAt t (l ∷ ls) u → ⊥
+less-fronts l ls t n [] f = f
+less-fronts l ls t n (a ∷ u) f = n u (f .1)
+
 hull-fold : (t : ℕ) (ls : List (List Stretch)) (h : Look) → h .status ≡ 1 → HullIs t ls h (pass 2 t h ls)
 unfolding pass lowOf highOf toOf goF stepOf hullOf
 hull-fold t [] h s = hull-some [] tt s refl refl
 hull-fold t (l ∷ ls) h s = go (firstFrom l t) refl (λ h' s'. hull-fold t ls h' s')
   where
-    no-fronts : firstFrom l t ≡ None → (u : List Stretch) → FrontsAt t (l ∷ ls) u → ⊥
-    no-fronts e [] f = f
-    no-fronts e (a ∷ u) f = none-at a (sym e ∙ f .0)
-
-    less-fronts : ((u : List Stretch) → FrontsAt t ls u → ⊥) → (u : List Stretch) → FrontsAt t (l ∷ ls) u → ⊥
-    less-fronts n [] f = f
-    less-fronts n (a ∷ u) f = n u (f .1)
-
     on : (x : Stretch) → firstFrom l t ≡ At x → {r : Look} → HullIs t ls (stepOf 2 h (atF (x .start) (x .end))) r → HullIs t (l ∷ ls) h r
-    on x e (hull-none n) = hull-none (less-fronts n)
+    on x e (hull-none n) = hull-none (less-fronts l ls t n)
     on x e (hull-some u f k i j) =
         hull-some (x ∷ u) (e, f) k (i ∙ ap (λ (n : ℕ). lowOf n u) (pick-min (h .start) (x .start))) (j ∙ ap (λ (n : ℕ). highOf n u) (pick-max (h .end) (x .end)))
 
     go : (g : fronts.Front) → firstFrom l t ≡ g → ((h' : Look) → h' .status ≡ 1 → HullIs t ls h' (pass 2 t h' ls))
         → HullIs t (l ∷ ls) h (goF (front g) (λ f. pass 2 t (stepOf 2 h f) ls))
-    go None e f = hull-none (no-fronts e)
+    go None e f = hull-none (no-fronts l ls t e)
     go (At x) e f = on x e (f (stepOf 2 h (atF (x .start) (x .end))) refl)
 
 pub and-look : (l : List Stretch) (ls : List (List Stretch)) → AllRising (l ∷ ls) → (t : ℕ) → TightLook And (l ∷ ls) t (passAll 2 t (l ∷ ls))
 unfolding passAll goF
 and-look l ls r t = go (firstFrom l t) refl
   where
-    no-fronts : firstFrom l t ≡ None → (u : List Stretch) → FrontsAt t (l ∷ ls) u → ⊥
-    no-fronts e [] f = f
-    no-fronts e (a ∷ u) f = none-at a (sym e ∙ f .0)
-
-    less-fronts : ((u : List Stretch) → FrontsAt t ls u → ⊥) → (u : List Stretch) → FrontsAt t (l ∷ ls) u → ⊥
-    less-fronts n [] f = f
-    less-fronts n (a ∷ u) f = n u (f .1)
-
     on : (x : Stretch) → firstFrom l t ≡ At x → {q : Look} → HullIs t ls (lookOf (atF (x .start) (x .end)) 1) q → TightLook And (l ∷ ls) t q
-    on x e (hull-none n) = t-none (and-gone (l ∷ ls) r t (less-fronts n))
+    on x e (hull-none n) = t-none (and-gone (l ∷ ls) r t (less-fronts l ls t n))
     on x e (hull-some {r = q} u f k i j) =
         t-some k
         (subst (λ (m : ℕ). Tight And (l ∷ ls) t m (q .end)) (sym (i ∙ low-all x u))
         (subst (λ (m : ℕ). Tight And (l ∷ ls) t (low x u) m) (sym (j ∙ high-all x u)) (and-tight (l ∷ ls) r t x u (e, f))))
 
     go : (g : fronts.Front) → firstFrom l t ≡ g → TightLook And (l ∷ ls) t (goF (front g) (λ f. pass 2 t (lookOf f 1) ls))
-    go None e = t-none (and-gone (l ∷ ls) r t (no-fronts e))
+    go None e = t-none (and-gone (l ∷ ls) r t (no-fronts l ls t e))
     go (At x) e = on x e (hull-fold t ls (lookOf (atF (x .start) (x .end)) 1) refl)
 
 -- ── chains: then, row ──
@@ -146,6 +139,16 @@ good-link h x lt e f =
     let b : eqb (x .start) (afterOf h) ≡ true = eq-eqb (x .start) (afterOf h) (f ∙ sym (after-is h lt)) in
     ap₂ (λ c d. pickN c (pickN d 1 0) 0) a b
 
+-- no chain where the first list has no front, or there is none from its end on
+no-chain : (l : List Stretch) (ls : List (List Stretch)) (m : ℕ) → firstFrom l m ≡ None → (u : List Stretch) → ChainAt m (l ∷ ls) u → ⊥
+no-chain l ls m e [] f = f
+no-chain l ls m e (a ∷ u) f = none-at a (sym e ∙ f .0)
+
+less-chain : (l : List Stretch) (ls : List (List Stretch)) (m : ℕ) (x : Stretch) → firstFrom l m ≡ At x → ((u : List Stretch) → ChainAt (suc (x .end)) ls u → ⊥)
+    → (u : List Stretch) → ChainAt m (l ∷ ls) u → ⊥
+less-chain l ls m x e n [] f = f
+less-chain l ls m x e n (a ∷ u) f = let z : a ≡ x = cc (f .0, e) in n u (subst (λ (y : Stretch). ChainAt (suc (y .end)) ls u) z (f .1))
+
 module _ (k t : ℕ) (notAnd : eqb k 2 ≡ false) where
   to-after : (h : Look) → h .end < 65536 → toOf k t h ≡ suc (h .end)
   unfolding toOf
@@ -156,17 +159,9 @@ module _ (k t : ℕ) (notAnd : eqb k 2 ≡ false) where
   step-link h f = ap (λ b. pickL b (hullOf h f) (linkOf h f)) notAnd
 
   module _ (l : List Stretch) (ls : List (List Stretch)) (h : Look) (lt : h .end < 65536) where
-    no-chain : firstFrom l (suc (h .end)) ≡ None → (u : List Stretch) → ChainAt (suc (h .end)) (l ∷ ls) u → ⊥
-    no-chain e [] f = f
-    no-chain e (a ∷ u) f = none-at a (sym e ∙ f .0)
-
     module _ (x : Stretch) (e : firstFrom l (suc (h .end)) ≡ At x) where
       head-is : (a : Stretch) → firstFrom l (suc (h .end)) ≡ At a → a ≡ x
       head-is a f = cc
-
-      less-chain : ((u : List Stretch) → ChainAt (suc (x .end)) ls u → ⊥) → (u : List Stretch) → ChainAt (suc (h .end)) (l ∷ ls) u → ⊥
-      less-chain n [] f = f
-      less-chain n (a ∷ u) f = n u (subst (λ (y : Stretch). ChainAt (suc (y .end)) ls u) (head-is a (f .0)) (f .1))
 
       no-row : (r : Look) → ((r .good ≡ 1 → ⊥) → linkOf h (atF (x .start) (x .end)) .good ≡ 1 → (w : List Stretch) → RowAt (suc (x .end)) ls w → ⊥)
           → (r .good ≡ 1 → ⊥) → h .good ≡ 1 → (w : List Stretch) → RowAt (suc (h .end)) (l ∷ ls) w → ⊥
@@ -178,7 +173,7 @@ module _ (k t : ℕ) (notAnd : eqb k 2 ≡ false) where
 
       on-chain : {r : Look} → ChainIs ls (linkOf h (atF (x .start) (x .end))) r → ChainIs (l ∷ ls) h r
       unfolding linkOf lastOf
-      on-chain (chain-none n) = chain-none (less-chain n)
+      on-chain (chain-none n) = chain-none (less-chain l ls (suc (h .end)) x e n)
       on-chain (chain-some {r} u f a b c g n) =
           chain-some (x ∷ u) (e, f) a b c (λ z. let w = g z in let y = link-good h x lt (w .0) in (y .0, (e, y .1, w .1))) (no-row r n)
 
@@ -190,7 +185,7 @@ module _ (k t : ℕ) (notAnd : eqb k 2 ≡ false) where
     where
       go : (g : fronts.Front) → firstFrom l (suc (h .end)) ≡ g → ((h' : Look) → h' .status ≡ 1 → h' .end < 65536 → ChainIs ls h' (pass k t h' ls))
           → ChainIs (l ∷ ls) h (goF (front g) (λ f. pass k t (stepOf k h f) ls))
-      go None e f = chain-none (no-chain l ls h lt e)
+      go None e f = chain-none (no-chain l ls (suc (h .end)) e)
       go (At x) e f =
           let g = front-good l (r .0) (suc (h .end)) x e in
           subst (λ (h' : Look). ChainIs (l ∷ ls) h (pass k t h' ls)) (sym (step-link h (atF (x .start) (x .end))))
@@ -206,27 +201,19 @@ chain-last (l ∷ []) r d m a (b ∷ u) f = absurd (f .1)
 chain-last [] r d m a (b ∷ u) f = absurd f
 
 module _ (l : List Stretch) (ls : List (List Stretch)) (r : AllRising (l ∷ ls)) (d : AllSound (l ∷ ls)) (b : AllBelow 65536 (l ∷ ls)) (t : ℕ) where
-  no-head : firstFrom l t ≡ None → (u : List Stretch) → ChainAt t (l ∷ ls) u → ⊥
-  no-head e [] f = f
-  no-head e (a ∷ u) f = none-at a (sym e ∙ f .0)
-
-  no-tail : (x : Stretch) → firstFrom l t ≡ At x → ((u : List Stretch) → ChainAt (suc (x .end)) ls u → ⊥) → (u : List Stretch) → ChainAt t (l ∷ ls) u → ⊥
-  no-tail x e n [] f = f
-  no-tail x e n (a ∷ u) f = let z : a ≡ x = cc (f .0, e) in n u (subst (λ (y : Stretch). ChainAt (suc (y .end)) ls u) z (f .1))
-
   pub then-look : TightLook Then (l ∷ ls) t (passAll 4 t (l ∷ ls))
   unfolding passAll goF
   then-look = go (firstFrom l t) refl
     where
       on : (x : Stretch) → firstFrom l t ≡ At x → {q : Look} → ChainIs ls (lookOf (atF (x .start) (x .end)) 1) q → TightLook Then (l ∷ ls) t q
-      on x e (chain-none n) = t-none (then-gone (l ∷ ls) r d t (no-tail x e n))
+      on x e (chain-none n) = t-none (then-gone (l ∷ ls) r d t (less-chain l ls t x e n))
       on x e (chain-some {r = q} u f k i j g n) =
           t-some k
           (subst (λ (m : ℕ). Tight Then (l ∷ ls) t m (q .end)) (sym i)
           (subst (λ (m : ℕ). Tight Then (l ∷ ls) t (x .start) m) (sym (j ∙ sym (chain-last (l ∷ ls) r d t x u (e, f)))) (then-tight (l ∷ ls) r d t x u (e, f))))
 
       go : (g : fronts.Front) → firstFrom l t ≡ g → TightLook Then (l ∷ ls) t (goF (front g) (λ f. pass 4 t (lookOf f 1) ls))
-      go None e = t-none (then-gone (l ∷ ls) r d t (no-head e))
+      go None e = t-none (then-gone (l ∷ ls) r d t (no-chain l ls t e))
       go (At x) e = on x e (chain-fold 4 t refl ls (r .1) (b .1) (lookOf (atF (x .start) (x .end)) 1) refl (b .0 (x .start) (x .end) (front-good l (r .0) t x e .0)))
 
 -- ── looks to be kept or passed over: row, less, max ──
@@ -261,11 +248,11 @@ module _ (l : List Stretch) (ls : List (List Stretch)) (r : AllRising (l ∷ ls)
               (row-left l ls r d t x e (λ w h. n bad refl w (h .2)) ∙ ap (λ (m : ℕ). firstFrom (answers Row (l ∷ ls)) (suc m)) (sym i))
 
       on : (x : Stretch) → firstFrom l t ≡ At x → {q : Look} → ChainIs ls (lookOf (atF (x .start) (x .end)) 1) q → SkipLook (answers Row (l ∷ ls)) t q
-      on x e (chain-none n) = k-none (gone-front Row (l ∷ ls) r d t (row-gone (l ∷ ls) r d t (no-tail l ls r d b t x e n)))
+      on x e (chain-none n) = k-none (gone-front Row (l ∷ ls) r d t (row-gone (l ∷ ls) r d t (less-chain l ls t x e n)))
       on x e (chain-some {r = q} u f k i j g n) = kept x e q u f k i j g n
 
       go : (g : fronts.Front) → firstFrom l t ≡ g → SkipLook (answers Row (l ∷ ls)) t (goF (front g) (λ f. pass 3 t (lookOf f 1) ls))
-      go None e = k-none (gone-front Row (l ∷ ls) r d t (row-gone (l ∷ ls) r d t (no-head l ls r d b t e)))
+      go None e = k-none (gone-front Row (l ∷ ls) r d t (row-gone (l ∷ ls) r d t (no-chain l ls t e)))
       go (At x) e = on x e (chain-fold 3 t refl ls (r .1) (b .1) (lookOf (atF (x .start) (x .end)) 1) refl (b .0 (x .start) (x .end) (front-good l (r .0) t x e .0)))
 
 -- a test on the stretches of l, and a mark that is 1 where it passes

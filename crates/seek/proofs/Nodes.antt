@@ -14,14 +14,14 @@ use Rattle.stretches.proofs.Fronts.{FirstIs, first-good, first-is, first-none}
 use Rattle.stretches.proofs.Cut.{cand-below}
 use Rattle.stretches.proofs.Tight.{Tight}
 use Rattle.pattern.specs.Pattern.{Symbol, And, Row, Then, Less, Max, Pattern, Patterns, Node, Nil, Cons, count}
-use Rattle.pattern.specs.Rows.{kindAt, firstAt, secondAt, Tree}
+use Rattle.pattern.specs.Rows.{kindAt, firstAt, secondAt, Tree, symbol}
 use Rattle.meaning.specs.Meaning.{eval, evals}
 use Rattle.meaning.proofs.Tree.{Fine, AllFine, fine-eval, fine-evals}
 use Rattle.seek.specs.declared.Front.{Front}
 use Rattle.seek.specs.Moves.{atF, noneF, lookOf, goF, nextOf, clearOf, shortOf, Serves, ended, ahead}
 use Rattle.seek.specs.Source.{Source, leafOf, valuation, Good}
 use Rattle.seek.specs.Seek.{Arity, Shaped, Fits, front, first, pass, passAll, look, Narrows, Skips}
-use Rattle.seek.proofs.Shape.{symbolOf, symbol-is, Rest, operands, rest-kid, rest-next}
+use Rattle.seek.proofs.Shape.{symbol-is, Rest, operands, rest-kid, rest-next}
 use Rattle.seek.proofs.Looks.{TightLook, SkipLook, and-look, then-look, row-look, less-look, max-look}
 use Rattle.seek.proofs.Best.{bestFrom, or-look}
 
@@ -127,13 +127,13 @@ module _ (P : Patterns → Type 0) where
 module _ (rows : List ℕ) (src : Source) (good : Good src) (v : ℕ) where
   -- what holds of the symbol that the kind fixes holds of the node
   by-kind : (P : Pattern → Type 0) (h : Symbol) (ps : Patterns) (k : ℕ) → Tree rows v (Node h ps) → Shaped (Node h ps) → kindAt rows v ≡ k
-      → (Arity (symbolOf k (firstAt rows v) (secondAt rows v)) (count ps) → P (Node (symbolOf k (firstAt rows v) (secondAt rows v)) ps)) → P (Node h ps)
+      → (Arity (symbol k (firstAt rows v) (secondAt rows v)) (count ps) → P (Node (symbol k (firstAt rows v) (secondAt rows v)) ps)) → P (Node h ps)
   by-kind P h ps k t s e f =
       let z = symbol-is rows v h _ k (t .0) e in
       subst (λ (x : Symbol). P (Node x ps)) (sym z) (f (subst (λ (x : Symbol). Arity x (count ps)) z (s .0)))
 
   pub either : (fuel : ℕ) (q : Pattern) → Fits rows v q (fuel + 1) → kindAt rows v ≡ 1 → Either rows src v fuel q
-  unfolding first symbolOf
+  unfolding first symbol
   either fuel (Node h ps) f k = by-kind (Either rows src v fuel) h ps 1 (f .tree) (f .shape) k
       (λ a. record { ps = ps; rest = operands rows v fuel h ps f; is = λ t. or-look (evals (valuation src) ps) (all-fine src good ps .rising) t })
 
@@ -145,17 +145,22 @@ module _ (rows : List ℕ) (src : Source) (good : Good src) (v : ℕ) where
       (λ p ps r. record { p = p; ps = ps; kid = rest-kid rows v fuel (v + 1) p ps r; rest = rest-next rows v fuel (v + 1) p ps r; is = is p ps })
       (operands rows v fuel h ps f)
 
+  -- a pass of kind k is a pass of the node's kind
+  pass-kind : (k : ℕ) → kindAt rows v ≡ k → (p : Pattern) (ps : Patterns) (t : ℕ)
+      → goF (first src p t) (λ f. pass k t (lookOf f 1) (evals (valuation src) ps)) ≡ goF (first src p t) (λ f. pass (kindAt rows v) t (lookOf f 1) (evals (valuation src) ps))
+  pass-kind k e p ps t = ap (λ (k : ℕ). goF (first src p t) (λ f. pass k t (lookOf f 1) (evals (valuation src) ps))) (sym e)
+
   pub passing : (fuel : ℕ) (q : Pattern) → Fits rows v q (fuel + 1) → (kindAt rows v ≡ 2) ⊎ ((kindAt rows v ≡ 3) ⊎ (kindAt rows v ≡ 4)) → Passing rows src v fuel q
-  unfolding first look passAll symbolOf
+  unfolding first look passAll symbol
   passing fuel (Node h ps) f (inl k) = by-kind (Passing rows src v fuel) h ps 2 (f .tree) (f .shape) k
-      (λ a. passed fuel h _ ps f a (λ p ps t. ap (λ (k : ℕ). goF (first src p t) (λ f. pass k t (lookOf f 1) (evals (valuation src) ps))) (sym k)))
+      (λ a. passed fuel h _ ps f a (pass-kind 2 k))
   passing fuel (Node h ps) f (inr (inl k)) = by-kind (Passing rows src v fuel) h ps 3 (f .tree) (f .shape) k
-      (λ a. passed fuel h _ ps f a (λ p ps t. ap (λ (k : ℕ). goF (first src p t) (λ f. pass k t (lookOf f 1) (evals (valuation src) ps))) (sym k)))
+      (λ a. passed fuel h _ ps f a (pass-kind 3 k))
   passing fuel (Node h ps) f (inr (inr k)) = by-kind (Passing rows src v fuel) h ps 4 (f .tree) (f .shape) k
-      (λ a. passed fuel h _ ps f a (λ p ps t. ap (λ (k : ℕ). goF (first src p t) (λ f. pass k t (lookOf f 1) (evals (valuation src) ps))) (sym k)))
+      (λ a. passed fuel h _ ps f a (pass-kind 4 k))
 
   pub lessing : (fuel : ℕ) (q : Pattern) → Fits rows v q (fuel + 1) → kindAt rows v ≡ 5 → Lessing rows src v fuel q
-  unfolding first look symbolOf
+  unfolding first look symbol
   lessing fuel (Node h ps) f k = by-kind (Lessing rows src v fuel) h ps 5 (f .tree) (f .shape) k
       (λ a. with-two (λ ps. Rest rows v fuel (v + 1) ps → Lessing rows src v fuel (Node Less ps)) ps a
       (λ p q r. record {
@@ -168,7 +173,7 @@ module _ (rows : List ℕ) (src : Source) (good : Good src) (v : ℕ) where
       (operands rows v fuel h ps f))
 
   pub maxing : (fuel : ℕ) (q : Pattern) → Fits rows v q (fuel + 1) → kindAt rows v ≡ 6 → Maxing rows src v fuel q
-  unfolding first look symbolOf
+  unfolding first look symbol
   maxing fuel (Node h ps) f k = by-kind (Maxing rows src v fuel) h ps 6 (f .tree) (f .shape) k
       (λ a. with-one (λ ps. Rest rows v fuel (v + 1) ps → Maxing rows src v fuel (Node (Max (firstAt rows v)) ps)) ps a
       (λ p r. record { p = p; kid = rest-kid rows v fuel (v + 1) p Nil r; is = λ t. refl })
@@ -180,7 +185,7 @@ module _ (rows : List ℕ) (src : Source) (good : Good src) (v : ℕ) where
       omega (arith, cand-sound o (evals (valuation src) ps) (f .sound) s e (h .cand), cand-below o 65536 (evals (valuation src) ps) (f .below) s e (h .cand))
 
   pub narrowing : (q : Pattern) → Tree rows v q → Shaped q → Narrows (kindAt rows v) → Narrowing src q
-  unfolding first look symbolOf
+  unfolding first look symbol
   narrowing (Node h ps) t s (inl k) = by-kind (Narrowing src) h ps 2 t s k
       (λ a. with-some (λ ps. Narrowing src (Node (And (firstAt rows v)) ps)) ps a
       (λ p ps. let f = all-fine src good (Cons p ps) in record {
@@ -205,7 +210,7 @@ module _ (rows : List ℕ) (src : Source) (good : Good src) (v : ℕ) where
       }))
 
   pub skipping : (q : Pattern) → Tree rows v q → Shaped q → Skips (kindAt rows v) → Skipping src q
-  unfolding look symbolOf
+  unfolding look symbol
   skipping (Node h ps) t s (inl k) = by-kind (Skipping src) h ps 3 t s k
       (λ a. with-some (λ ps. Skipping src (Node (Row (firstAt rows v)) ps)) ps a
       (λ p ps. let f = all-fine src good (Cons p ps) in record { is = λ t. row-look (eval (valuation src) p) (evals (valuation src) ps) (f .rising) (f .sound) (f .below) t }))

@@ -16,7 +16,7 @@ use Rattle.seek.specs.declared.Front.{Front}
 use Rattle.seek.specs.declared.fronts.Look.{Look}
 use Rattle.seek.specs.Moves.{atF, noneF}
 use Rattle.seek.specs.Source.{Source, valuation}
-use Rattle.seek.specs.Seek.{Fits, front, first, look, Ready, Sought, Looked, Narrows, Skips}
+use Rattle.seek.specs.Seek.{Fits, front, first, look, Ready, Sought, Seen, Looked, Narrows, Skips}
 use Rattle.seek.proofs.Looks.{TightLook, t-none, t-some, SkipLook, k-none, k-good, k-bad}
 use Rattle.seek.proofs.Nodes.{past, Narrowing, narrowing, skipping}
 
@@ -85,36 +85,36 @@ module _ {rows : List ℕ} {src : Source} {st st₀ : List ℕ} {v t fuel : ℕ}
   narrow-is : (q : Pattern) (w : Narrowing src q) → Tight (w .op) (w .ls) t m (a .end) → ((s′ e′ : ℕ) → Cand (w .op) (w .ls) s′ e′ → m < s′ → a .end < e′) → atF m (a .end) ≡ first src q t
   narrow-is q w g f = sym (w .is t ∙ ap front (tight-front (w .op) (w .ls) (w .up) (w .ok) t m (a .end) g f))
 
+  -- the node's operator, what is tight so far, and a further look
+  narrow-seen : {st' : List ℕ} {b : Look} → Looked rows src st₁ v (m + 1) fuel b st' → (q : Pattern) → Fits rows v q (fuel + 1) → Ready rows src st
+      → (w : Narrowing src q) × Tight (w .op) (w .ls) t m (a .end) × Seen rows src q (m + 1) b st'
+  narrow-seen s q d rdy =
+      let w = narrowing rows src (rdy .good) v q (d .tree) (d .shape) k in
+      let y = narrows-range k in
+      let i = narrow-at q w d rdy in
+      (w, i .1, s .seen q (y .0) (y .1) d (i .0))
+
   pub narrow-last : {st' : List ℕ} {b : Look} {r : Front} → Looked rows src st₁ v (m + 1) fuel b st' → (b .status ≡ 1 → ⊥) → r ≡ atF m (a .end) → Sought rows src st v t (fuel + 1) r st'
   narrow-last {st'} {b} {r} s n e = record {
     found = λ q d rdy.
-        let w = narrowing rows src (rdy .good) v q (d .tree) (d .shape) k in
-        let y = narrows-range k in
-        let i = narrow-at q w d rdy in
-        let g = s .seen q (y .0) (y .1) d (i .0) in
-        let z = tight-gone (w .op) (w .ls) (m + 1) (w .tight (m + 1)) (λ z. n (ap statusL (g .is) ∙ z)) in
-        record { is = e ∙ narrow-is q w (i .1) (λ s′ e′ c lt. absurd (omega (arith, z s′ e′ c))); ready = g .ready };
+        let i = narrow-seen s q d rdy in
+        let z = tight-gone (i .0 .op) (i .0 .ls) (m + 1) (i .0 .tight (m + 1)) (λ z. n (ap statusL (i .2 .is) ∙ z)) in
+        record { is = e ∙ narrow-is q (i .0) (i .1) (λ s′ e′ c lt. absurd (omega (arith, z s′ e′ c))); ready = i .2 .ready };
   }
 
   pub narrow-over : {st' : List ℕ} {b : Look} {r : Front} → Looked rows src st₁ v (m + 1) fuel b st' → b .status ≡ 1 → a .end < b .end → r ≡ atF m (a .end) → Sought rows src st v t (fuel + 1) r st'
   narrow-over {st'} {b} {r} s o gt e = record {
     found = λ q d rdy.
-        let w = narrowing rows src (rdy .good) v q (d .tree) (d .shape) k in
-        let y = narrows-range k in
-        let i = narrow-at q w d rdy in
-        let g = s .seen q (y .0) (y .1) d (i .0) in
-        let z = next-look src q w m b (g .is) o in
-        record { is = e ∙ narrow-is q w (i .1) (λ s′ e′ c lt. omega (arith, z .least s′ e′ c (omega arith))); ready = g .ready };
+        let i = narrow-seen s q d rdy in
+        let z = next-look src q (i .0) m b (i .2 .is) o in
+        record { is = e ∙ narrow-is q (i .0) (i .1) (λ s′ e′ c lt. omega (arith, z .least s′ e′ c (omega arith))); ready = i .2 .ready };
   }
 
   pub narrow-back : {st' : List ℕ} {b : Look} {r : Front} → Looked rows src st₁ v (m + 1) fuel b st' → b .status ≡ 1 → b .start ≤ m → Sought rows src st v t (fuel + 1) r st'
   narrow-back {st'} {b} {r} s o back = record {
     found = λ q d rdy.
-        let w = narrowing rows src (rdy .good) v q (d .tree) (d .shape) k in
-        let y = narrows-range k in
-        let i = narrow-at q w d rdy in
-        let g = s .seen q (y .0) (y .1) d (i .0) in
-        absurd (omega (arith, next-look src q w m b (g .is) o .from));
+        let i = narrow-seen s q d rdy in
+        absurd (omega (arith, next-look src q (i .0) m b (i .2 .is) o .from));
   }
 
   pub narrow-out : {st' : List ℕ} {r : Front} → 65536 ≤ m → Sought rows src st v t (fuel + 1) r st'

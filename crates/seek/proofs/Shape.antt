@@ -1,7 +1,7 @@
 -- A tree in a table: its symbols are read off the rows, its operands stand where the walk over siblings goes, and a place holds one tree only.
 -- Assumes nothing.
 use mathlib.Core.Path.{_≡_, refl, sym, ap, ap₂, subst, _∙_}
-use mathlib.Core.Bool.{true, false, cond}
+use mathlib.Core.Bool.{true, false}
 use mathlib.Core.Logic.{inl, inr}
 use mathlib.Core.List.{List}
 use Prim.Native.Nat.{ℕ, suc, _+_, _-_, _≤_, _<_}
@@ -9,7 +9,8 @@ use native.Mathlib.Omega.{arith}
 use lib.Dec.{leb, eqb}
 use borrow.Author.Tests.{le-leb, ne-eqb}
 use Rattle.pattern.specs.Pattern.{Symbol, Ev, Fr, Or, And, Row, Then, Less, Max, Pattern, Patterns, Node, Nil, Cons, Ranged, rank, count, WellFormed, AllFormed, nodes, nodesOf, depth, deepest}
-use Rattle.pattern.specs.Rows.{kindOf, firstOf, secondOf, kindAt, sizeAt, firstAt, secondAt, Entry, Tree, Trees}
+use Rattle.pattern.specs.Rows.{kindOf, kindAt, sizeAt, firstAt, secondAt, Entry, Tree, Trees, symbol}
+use Rattle.pattern.proofs.Rows.{symbol-of}
 use Rattle.seek.specs.Moves.{pickN, nextOf, stopOf}
 use Rattle.seek.specs.Seek.{Arity, Shaped, AllShaped, Fits, Skips}
 
@@ -42,32 +43,7 @@ mutual
   all-shaped Nil w = tt
   all-shaped (Cons p ps) w = (formed-shaped p (w .0), all-shaped ps (w .1))
 
--- a well-formed pattern within bounds fits where it stands
-pub formed-fits : (rows : List ℕ) (q : Pattern) → WellFormed q → nodes q ≤ 32 → depth q ≤ 8 → Tree rows 0 q → Fits rows 0 q 8
-formed-fits rows q w n d t = record { tree = t; shape = formed-shaped q w; room = omega arith; low = d }
-
 -- ── A node's symbol, read off its numbers ──
-
-unfoldable pub symbolOf : ℕ → ℕ → ℕ → Symbol
-symbolOf k a b =
-    cond (eqb k 1) (Or a)
-    (cond (eqb k 2) (And a)
-    (cond (eqb k 3) (Row a)
-    (cond (eqb k 4) (Then a)
-    (cond (eqb k 5) Less
-    (cond (eqb k 6) (Max a)
-    (cond (eqb k 16) (Ev a b) (Fr a b)))))))
-
-symbol-of : (h : Symbol) → h ≡ symbolOf (kindOf h) (firstOf h) (secondOf h)
-unfolding symbolOf
-symbol-of (Ev c l) = refl
-symbol-of (Fr f l) = refl
-symbol-of (Or n) = refl
-symbol-of (And n) = refl
-symbol-of (Row n) = refl
-symbol-of (Then n) = refl
-symbol-of Less = refl
-symbol-of (Max k) = refl
 
 -- the kinds that a tree has
 kinds : (h : Symbol) → kindOf h < 16 → (kindOf h ≡ 1 → ⊥) → (kindOf h ≡ 2 → ⊥) → (kindOf h ≡ 4 → ⊥) → Skips (kindOf h)
@@ -106,7 +82,7 @@ nodes-count Nil = omega arith
 nodes-count (Cons p ps) = omega (arith, nodes-some p, nodes-count ps)
 
 module _ (rows : List ℕ) (v : ℕ) where
-  pub symbol-is : (h : Symbol) (n k : ℕ) → Entry rows v h n → kindAt rows v ≡ k → h ≡ symbolOf k (firstAt rows v) (secondAt rows v)
+  pub symbol-is : (h : Symbol) (n k : ℕ) → Entry rows v h n → kindAt rows v ≡ k → h ≡ symbol k (firstAt rows v) (secondAt rows v)
   symbol-is h n k e is = symbol-of h ∙ rw (sym (e .kind), is, sym (e .first), sym (e .second))
 
   pub kind-skips : (q : Pattern) → Tree rows v q → kindAt rows v < 16 → (kindAt rows v ≡ 1 → ⊥) → (kindAt rows v ≡ 2 → ⊥) → (kindAt rows v ≡ 4 → ⊥) → Skips (kindAt rows v)

@@ -18,9 +18,10 @@ use Rattle.pattern.specs.Rows.{firstOf, Entry, Tree, Trees}
 use Rattle.meaning.specs.Meaning.{operator, apply, eval, evals, answersIn}
 use Rattle.meaning.specs.Lent.{listsFrom, listsOf}
 use Rattle.meaning.proofs.Tree.{Fine, fine-leaf}
+use Rattle.meaning.proofs.Lent.{lists-out}
 use Rattle.seek.specs.Source.{source, leafOf, valuation, Good, listLeaves, listTree}
 use Rattle.seek.specs.Seek.{Arity, AllShaped, Fits}
-use Rattle.seek.proofs.LeafLaws.{over-lists, lists-out}
+use Rattle.seek.proofs.LeafLaws.{over-lists}
 
 -- ── A log ──
 

@@ -14,7 +14,7 @@ use Rattle.seek.specs.declared.Front.{Front}
 use Rattle.seek.specs.declared.fronts.Look.{Look}
 use Rattle.seek.specs.Moves.{noneF, noLook, lookOf, pickL, goF, nextOf, stopOf, betterOf, clearOf, shortOf, toOf, stepOf}
 use Rattle.seek.specs.Source.{Source, valuation}
-use Rattle.seek.specs.Seek.{Fits, first, pass, look, Ready, Sought, Looked}
+use Rattle.seek.specs.Seek.{Fits, first, pass, look, Ready, Sought, Seen, Looked}
 use Rattle.seek.proofs.Shape.{nodes-some, Rest, rest-kid, rest-next}
 use Rattle.seek.proofs.Best.{bestFrom}
 use Rattle.seek.proofs.Nodes.{either, Passing, passing, lessing, maxing}
@@ -88,6 +88,11 @@ go-none : (f : Front) (k : Front → Look) → (f .status ≡ 1 → ⊥) → goF
 unfolding goF
 go-none f k n = ap (λ b. pickL b (k f) noLook) (ne-eqb (f .status) 1 n)
 
+-- where the first operand has no front, a look that goes on from it finds nothing
+first-gone : {rows : List ℕ} {src : Source} {st st' : List ℕ} {c t fuel : ℕ} {a : Front} {r : Look} {q p : Pattern} → Sought rows src st c t fuel a st' → (a .status ≡ 1 → ⊥) → r ≡ noLook
+    → Fits rows c p fuel → ((first src p t .status ≡ 1 → ⊥) → look src q t ≡ noLook) → Ready rows src st → Seen rows src q t r st'
+first-gone {p = p} s n e kid none rdy = let g = s .found p kid rdy in record { is = e ∙ sym (none (λ z. n (ap statusF (g .is) ∙ z))); ready = g .ready }
+
 pub record PassRest (rows : List ℕ) (src : Source) (v t fuel c : ℕ) (h r : Look) : Type 0 where
   pub ps : Patterns
   pub rest : Rest rows v fuel c ps
@@ -117,12 +122,7 @@ passes {k} lo hi = ⊎-elim (λ (e : k ≡ 3). inr (inl e)) (λ (o : (k < 3) ⊎
 
 pub pass-none : {rows : List ℕ} {src : Source} {st st' : List ℕ} {v t fuel : ℕ} {h : Front} {r : Look} → Sought rows src st (v + 1) t fuel h st' → (h .status ≡ 1 → ⊥) → r ≡ noLook
     → kindAt rows v ≤ 4 → 2 ≤ kindAt rows v → Looked rows src st v t fuel r st'
-pass-none {rows} {src} {st} {st'} {v} {t} {fuel} s n e hi lo = record {
-  seen = λ q _ _ d rdy.
-      let w = passing rows src (rdy .good) v fuel q d (passes lo hi) in
-      let g = s .found (w .p) (w .kid) rdy in
-      record { is = e ∙ sym (w .is t ∙ go-none _ _ (λ z. n (ap statusF (g .is) ∙ z))); ready = g .ready };
-}
+pass-none {rows} {src} {st} {st'} {v} {t} {fuel} s n e hi lo = record { seen = λ q _ _ d rdy. let w = passing rows src (rdy .good) v fuel q d (passes lo hi) in first-gone s n e (w .kid) (λ z. w .is t ∙ go-none _ _ z) rdy }
 
 -- h is what was passed of the operands before c, where the first was found and made h₀
 pub record PassInv (rows : List ℕ) (src : Source) (st₀ : List ℕ) (v t fuel : ℕ) (h₀ : Look) (st : List ℕ) (c : ℕ) (h : Look) : Type 0 where
@@ -198,12 +198,7 @@ less-out {rows} {src} {st} {v} {t} {fuel} eo ge k =
 
 pub less-gone : {rows : List ℕ} {src : Source} {st st' : List ℕ} {v t fuel : ℕ} {a : Front} {r : Look} → Sought rows src st (v + 1) t fuel a st' → (a .status ≡ 1 → ⊥) → r ≡ noLook → kindAt rows v ≡ 5
     → Looked rows src st v t fuel r st'
-less-gone {rows} {src} {st} {st'} {v} {t} {fuel} s n e k = record {
-  seen = λ q _ _ d rdy.
-      let w = lessing rows src (rdy .good) v fuel q d k in
-      let g = s .found (w .p) (w .kid) rdy in
-      record { is = e ∙ sym (w .is t ∙ go-none _ _ (λ z. n (ap statusF (g .is) ∙ z))); ready = g .ready };
-}
+less-gone {rows} {src} {st} {st'} {v} {t} {fuel} s n e k = record { seen = λ q _ _ d rdy. let w = lessing rows src (rdy .good) v fuel q d k in first-gone s n e (w .kid) (λ z. w .is t ∙ go-none _ _ z) rdy }
 
 pub less-done : {rows : List ℕ} {src : Source} {st st₁ st' : List ℕ} {v t fuel : ℕ} {a b : Front} {r : Look} {o y : ℕ} → o ≡ nextOf rows (v + 1) → Sought rows src st (v + 1) t fuel a st₁ → a .status ≡ 1
     → Sought rows src st₁ o (a .start) fuel b st' → y ≡ clearOf b a → r ≡ lookOf a y → kindAt rows v ≡ 5 → Looked rows src st v t fuel r st'
@@ -220,12 +215,7 @@ less-done {rows} {src} {st} {st₁} {st'} {v} {t} {fuel} {a} {b} {r} {o} {y} eo 
 
 pub max-gone : {rows : List ℕ} {src : Source} {st st' : List ℕ} {v t fuel : ℕ} {a : Front} {r : Look} → Sought rows src st (v + 1) t fuel a st' → (a .status ≡ 1 → ⊥) → r ≡ noLook → kindAt rows v ≡ 6
     → Looked rows src st v t fuel r st'
-max-gone {rows} {src} {st} {st'} {v} {t} {fuel} s n e k = record {
-  seen = λ q _ _ d rdy.
-      let w = maxing rows src (rdy .good) v fuel q d k in
-      let g = s .found (w .p) (w .kid) rdy in
-      record { is = e ∙ sym (w .is t ∙ go-none _ _ (λ z. n (ap statusF (g .is) ∙ z))); ready = g .ready };
-}
+max-gone {rows} {src} {st} {st'} {v} {t} {fuel} s n e k = record { seen = λ q _ _ d rdy. let w = maxing rows src (rdy .good) v fuel q d k in first-gone s n e (w .kid) (λ z. w .is t ∙ go-none _ _ z) rdy }
 
 pub max-done : {rows : List ℕ} {src : Source} {st st' : List ℕ} {v t fuel : ℕ} {a : Front} {r : Look} {y : ℕ} → Sought rows src st (v + 1) t fuel a st' → a .status ≡ 1
     → y ≡ shortOf a (firstAt rows v) → r ≡ lookOf a y → kindAt rows v ≡ 6 → Looked rows src st v t fuel r st'

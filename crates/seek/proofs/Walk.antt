@@ -6,10 +6,10 @@ use mathlib.Core.List.{List, [], _∷_, _++_}
 use Prim.Native.Nat.{ℕ, zero, suc, _+_, _*_, _≤_, _<_}
 use native.Mathlib.Omega.{arith}
 use lib.ListN.{length, take, drop, replicate, length-replicate, getD-replicate, length-drop, drop-of-length-le}
-use borrow.Author.Tests.{eq-eqb, ne-eqb}
+use borrow.Author.Tests.{eq-eqb}
 use Rattle.stretches.specs.Stretch.{Stretch, st, Rising}
 use Rattle.stretches.specs.Front as fronts
-use Rattle.stretches.specs.Front.{None, At, firstFrom}
+use Rattle.stretches.specs.Front.{None, At, firstFrom, headOf, nth}
 use Rattle.stretches.proofs.Lists.{st-path}
 use Rattle.stretches.proofs.Fronts.{front-good}
 use Rattle.stretches.proofs.Steps.{onward, onward-all, onward-none, onward-at}
@@ -21,8 +21,9 @@ use Rattle.seek.specs.declared.Front.{Front}
 use Rattle.seek.specs.Moves.{pickN, atF, noneF}
 use Rattle.seek.specs.Source.{Source, valuation, Good}
 use Rattle.seek.specs.Seek.{Fits, front, first, Ready, Sought}
-use Rattle.seek.specs.Steps.{headOf, nth, Led, onFrom, NextOf, Ahead, Passed}
+use Rattle.seek.specs.Steps.{Led, onFrom, Stepped, NextOf, Ahead, Passed}
 use Rattle.seek.proofs.Nodes.{fine}
+use Rattle.seek.proofs.Shape.{tree-one}
 
 -- ── Lists ──
 
@@ -77,6 +78,22 @@ on-rest l u t n rest r e = go (firstFrom l t) refl
         ap (λ (f : Front). onward l (onFrom t f)) w
         ∙ (ap (onward l) y ∙ (sym (drop-step n l x (onward l (suc (x .start))) (sym rest ∙ onward-at l u t x k) .0) ∙ ap (λ (m : ℕ). drop m l) z))
 
+-- a front sought from t, where n steps led to, is answer number n, and leads on
+step-on : {rows : List ℕ} {src : Source} {s s' : List ℕ} {t : ℕ} {r : Front} (q : Pattern) (n : ℕ) → Led rows src q n s t → r ≡ first src q t → Ready rows src s' → Stepped rows src q n t r s'
+unfolding first
+step-on {src = src} {t = t} {r = r} q n led e ready =
+    let up = fine src (ready .good) q .rising in
+    record {
+      is = e ∙ ap front (front-nth (eval (valuation src) q) up t n (led .rest));
+      on = record { fits = led .fits; ready = ready; rest = on-rest (eval (valuation src) q) up t n (led .rest) r e };
+    }
+
+-- a step that the table's tree allows: its front, and a state in which nothing is read
+pub next-there : {rows : List ℕ} {src : Source} (q : Pattern) {s : List ℕ} {t : ℕ} → Good src → Fits rows 0 q 8 → NextOf rows src s t (first src q t) (replicate 192 0)
+next-there {rows} {src} q {s} {t} good fits = record {
+  steps = λ q' n led. step-on q' n led (ap (λ (p : Pattern). first src p t) (tree-one rows 0 q q' (fits .tree) (led .fits .tree))) (ready-none rows src good);
+}
+
 -- a front that starts before t or at 65,536 or later is none that was sought from t
 within : (src : Source) (good : Good src) (q : Pattern) (t : ℕ) (f : Front) → f ≡ first src q t → f .status ≡ 1 → (t ≤ f .start) × (f .start < 65536)
 unfolding first
@@ -108,17 +125,7 @@ ahead-none t r e = record {
 module _ {rows : List ℕ} {src : Source} {s : List ℕ} {t : ℕ} {f : Front} {s' : List ℕ} (g : Sought rows src s 0 t 8 f s') where
   -- what is handed out is what was sought
   stepped : {r : Front} → ((q : Pattern) → Good src → f ≡ first src q t → r ≡ f) → NextOf rows src s t r s'
-  unfolding first
-  stepped {r} same = record {
-    steps = λ q n led.
-        let k = g .found q (led .fits) (led .ready) in
-        let e : r ≡ front (firstFrom (eval (valuation src) q) t) = same q (led .ready .good) (k .is) ∙ k .is in
-        let up = fine src (led .ready .good) q .rising in
-        record {
-          is = e ∙ ap front (front-nth (eval (valuation src) q) up t n (led .rest));
-          on = record { fits = led .fits; ready = k .ready; rest = on-rest (eval (valuation src) q) up t n (led .rest) r e };
-        };
-  }
+  stepped same = record { steps = λ q n led. let k = g .found q (led .fits) (led .ready) in step-on q n led (same q (led .ready .good) (k .is) ∙ k .is) (k .ready) }
 
   pub next-none : {r : Front} → (f .status ≡ 1 → ⊥) → r ≡ noneF → NextOf rows src s t r s' × Ahead t r
   next-none {r} n e = (stepped (λ q good is. e ∙ none-is src q t f is n), ahead-none t r e)
@@ -151,9 +158,6 @@ nth-some l n r e one = head (drop n l) refl
 
 pub on-some : (t : ℕ) (r : Front) → r .status ≡ 1 → onFrom t r ≡ r .start + 1
 on-some t r e = ap (λ b. pickN b (r .start + 1) t) (eq-eqb (r .status) 1 e)
-
-on-none : (t : ℕ) (r : Front) → (r .status ≡ 1 → ⊥) → onFrom t r ≡ t
-on-none t r e = ap (λ b. pickN b (r .start + 1) t) (ne-eqb (r .status) 1 e)
 
 pub over-start : {rows : List ℕ} {src : Source} {s : List ℕ} → Passed rows src s 0 0 s
 over-start = record { leads = λ q led. led }

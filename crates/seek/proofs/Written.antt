@@ -13,6 +13,7 @@ use Rattle.stretches.specs.Stretch.{Stretch, st}
 use Rattle.pattern.specs.Pattern.{Pattern}
 use Rattle.meaning.specs.Meaning.{eval}
 use Rattle.meaning.specs.Filling.{flat, pairsIn, written}
+use Rattle.meaning.proofs.Filling.{length-flat}
 use Rattle.seek.specs.declared.Front.{Front}
 use Rattle.seek.specs.declared.Walked.{Walked}
 use Rattle.seek.specs.Source.{Source, valuation}
@@ -22,10 +23,6 @@ use Rattle.seek.proofs.Walk.{drop-step, nth-none, nth-some, on-some, le
 flat-append : (a b : List Stretch) → flat (a ++ b) ≡ flat a ++ flat b
 flat-append [] b = refl
 flat-append (x ∷ a) b = ap (λ (r : List ℕ). x .start ∷ x .end ∷ r) (flat-append a b)
-
-length-flat : (a : List Stretch) → length (flat a) ≡ 2 * length a
-length-flat [] = refl
-length-flat (x ∷ a) = omega (arith, length-flat a)
 
 -- two cells are written behind what was
 put-two : (p cells : List ℕ) (i s e : ℕ) → length p ≡ i → i + 2 ≤ length cells → set (set (p ++ drop i cells) i s) (i + 1) e ≡ (p ++ (s ∷ e ∷ [])) ++ drop (i + 2) cells

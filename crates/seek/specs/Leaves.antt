@@ -1,9 +1,9 @@
 -- What the contracts of a leaf's private functions cite. Assumes nothing.
-use Prim.Native.Nat.{ℕ, zero, suc, _+_, _*_, _-_, _≤_, _<_}
+use Prim.Native.Nat.{ℕ, _+_, _*_, _-_, _≤_, _<_}
 use mathlib.Core.Path.{_≡_}
 use mathlib.Core.Logic.{_⊎_}
 use mathlib.Core.List.{List, map}
-use lib.ListN.{length, getD, set, take, drop}
+use lib.ListN.{length, getD, set}
 use Rattle.stretches.specs.Stretch.{Stretch, Rising, marks}
 use Rattle.stretches.specs.Front.{firstFrom}
 use Rattle.event_log.specs.Lines.{Cursor}
@@ -11,21 +11,12 @@ use Rattle.event_log.specs.Reading.{says}
 use Rattle.pattern.specs.Pattern.{Symbol}
 use Rattle.pattern.specs.Rows.{Entry}
 use Rattle.meaning.specs.Meaning.{matches}
-use Rattle.meaning.specs.Lent.{pairs}
+use Rattle.meaning.specs.Lent.{part, startOf}
 use Rattle.seek.specs.declared.Front.{Front}
 use Rattle.seek.specs.Source.{Source, leafOf, Good}
 use Rattle.seek.specs.Seek.{front, Cursors}
 
 -- ── Lent lists ──
-
--- the stretches from place i of the items up to place h
-unfoldable pub part : List ℕ → ℕ → ℕ → List Stretch
-part items i h = pairs (take (h - i) (drop i items))
-
--- where list k starts: where the list before it ends
-abbrev pub startOf : List ℕ → ℕ → ℕ
-startOf ends zero = 0
-startOf ends (suc k) = getD ends k 0
 
 -- list k, by its places
 unfoldable pub listOf : List ℕ → List ℕ → ℕ → List Stretch

@@ -2,12 +2,11 @@
 -- Assumes nothing.
 use Prim.Native.Nat.{ℕ, _+_, _*_, _≤_, _<_}
 use mathlib.Core.Path.{_≡_}
-use mathlib.Core.List.{List, [], _∷_}
+use mathlib.Core.List.{List}
 use lib.ListN.{length, drop}
 use lib.Dec.{eqb}
-use Rattle.stretches.specs.Stretch.{Stretch, st}
-use Rattle.stretches.specs.Front as fronts
-use Rattle.stretches.specs.Front.{None, At}
+use Rattle.stretches.specs.Stretch.{Stretch}
+use Rattle.stretches.specs.Front.{nth}
 use Rattle.stretches.proofs.Steps.{onward}
 use Rattle.pattern.specs.Pattern.{Pattern}
 use Rattle.meaning.specs.Meaning.{eval}
@@ -17,14 +16,6 @@ use Rattle.seek.specs.declared.Walked.{Walked}
 use Rattle.seek.specs.Source.{Source, valuation, Good}
 use Rattle.seek.specs.Moves.{pickN, noneF}
 use Rattle.seek.specs.Seek.{Fits, Ready, front}
-
--- answer number n, counted from 0; none past the last
-abbrev pub headOf : List Stretch → fronts.Front
-headOf [] = None
-headOf (x ∷ xs) = At x
-
-abbrev pub nth : List Stretch → ℕ → fronts.Front
-nth l n = headOf (drop n l)
 
 -- n answers of q have been asked for, and the next is sought from line t
 pub record Led (rows : List ℕ) (src : Source) (q : Pattern) (n : ℕ) (s : List ℕ) (t : ℕ) : Type 0 where
@@ -72,10 +63,3 @@ pub record Passed (rows : List ℕ) (src : Source) (s : List ℕ) (f t : ℕ) (s
 
 pub record Put (rows : List ℕ) (src : Source) (s : List ℕ) (t : ℕ) (cells : List ℕ) (r : Walked) (cells' : List ℕ) : Type 0 where
   pub puts : (q : Pattern) (f : ℕ) → Led rows src q f s t → Filling (eval (valuation src) q) f cells r cells'
-
--- ── Steps up to the first that says none ──
-
-pub data Run (rows : List ℕ) (src : Source) : List ℕ → ℕ → List Stretch → Type 0 where
-  over : {s : List ℕ} {t : ℕ} (r : Front) (s' : List ℕ) → NextOf rows src s t r s' → (r .status ≡ 1 → ⊥) → Run rows src s t []
-  more : {s : List ℕ} {t : ℕ} (r : Front) (s' : List ℕ) {xs : List Stretch} → NextOf rows src s t r s' → r .status ≡ 1 → Run rows src s' (onFrom t r) xs
-      → Run rows src s t (st (r .start) (r .end) ∷ xs)

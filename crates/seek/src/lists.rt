@@ -6,8 +6,8 @@ use crate::fronts::wide;
 ghost use mathlib.Core.Path.{_≡_};
 ghost use Prim.Native.Nat.{_<_, _≤_};
 ghost use Rattle.pattern.specs.Rows.{firstAt};
-ghost use Rattle.seek.specs.Leaves.{startOf};
 ghost use Rattle.seek.specs.Leaves.{Resumed, Ran, ListFound};
+ghost use Rattle.meaning.specs.Lent.{startOf};
 
 fn hint_of(x: usize) -> u32 {
     if x < 4294967296 { x as u32 } else { 0 }

@@ -2,7 +2,8 @@
 -- Assumes nothing.
 use mathlib.Core.Path.{_≡_, refl}
 use mathlib.Core.List.{[], _∷_}
-use Rattle.pattern.specs.Automaton.{symbol, child, wordAt, step, endOf, finish, scan}
+use Rattle.pattern.specs.Rows.{symbol}
+use Rattle.pattern.specs.Automaton.{child, wordAt, step, endOf, finish, scan}
 use Rattle.pattern.specs.Reading.{build, outcomeOf}
 use Rattle.pattern.specs.Decimal.{decimal, digitsOf}
 use Rattle.meaning.specs.Refusals.{refusal}

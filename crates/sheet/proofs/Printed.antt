@@ -3,7 +3,7 @@
 use Prim.Native.Nat.{ℕ, zero, suc, _+_, _-_, _*_, _/_, _≤_, _<_, min}
 use mathlib.Core.Path.{_≡_, refl, sym, ap, ap₂, _∙_}
 use mathlib.Core.List.{List, [], _∷_, _++_}
-use lib.ListN.{length, getD, take, drop, length-append, length-take}
+use lib.ListN.{length, getD, take, drop, length-append}
 use lib.Seq.{drop-cons, take-nil, sets}
 use native.Mathlib.Omega.{arith}
 use Rattle.stretches.specs.Stretch.{Stretch, st}
@@ -105,9 +105,6 @@ take-most (suc n) (x ∷ l) =
 -- the number asked for or the number held, whichever is less
 pub shown-most : (count : ℕ) (cells : List ℕ) → take (min count (length cells / 2)) (pairs cells) ≡ shown count cells
 shown-most count cells = ap (λ (k : ℕ). take (min count k) (pairs cells)) (sym (length-pairs cells)) ∙ take-most count (pairs cells)
-
-pub length-shown : (count : ℕ) (cells : List ℕ) → length (shown count cells) ≡ min count (length cells / 2)
-length-shown count cells = length-take count (pairs cells) ∙ ap (λ (k : ℕ). min count k) (length-pairs cells)
 
 -- what a filling call wrote is what is shown
 pub shown-flat : (l : List Stretch) (r : List ℕ) → shown (length l) (flat l ++ r) ≡ l

@@ -1,29 +1,26 @@
--- The first stretch of a list from a line on, and what it is for the answers of or and of and.
+-- The first stretch of a list from a line on, what it is for the answers of or, and the fronts of all lists, which and spans.
 -- Assumes nothing.
-use Prim.Native.Nat.{ℕ, suc, _≤_, _<_}
+use Prim.Native.Nat.{ℕ, _≤_, _<_}
 use mathlib.Core.Path.{_≡_, refl, sym, ap, subst}
-use mathlib.Core.Logic.{_⊎_, inl, inr}
-use mathlib.Core.Bool.{Bool, true, false, cond, _&&_, _||_}
+use mathlib.Core.Logic.{inl, inr}
+use mathlib.Core.Bool.{true, cond}
 use mathlib.Core.List.{List, [], _∷_}
-use lib.Dec.{leb, ltb, eqb}
-use borrow.Author.Tests.{ltb-true, ltb-false, eqb-true, leb-true, leb-false, eq-eqb}
+use lib.Dec.{leb}
+use borrow.Author.Tests.{leb-true, leb-false}
 use native.Mathlib.Omega.{arith}
-use Rattle.stretches.specs.Stretch.{Stretch, st, In, Rising, low, high, linked, anyhow, together, Or, And, answers}
+use Rattle.stretches.specs.Stretch.{Stretch, st, In, Rising, low, high, linked, anyhow, together, Or, answers}
 use Rattle.stretches.specs.Front.{Front, None, At, firstFrom}
-use Rattle.stretches.proofs.Lists.{cases, and-true, st-path, le-or-lt}
-use Rattle.stretches.proofs.Tuples.{InAny, Picks, Span}
+use Rattle.stretches.specs.Taking.{endsFirst}
+use Rattle.stretches.proofs.Lists.{cases, st-path, rising-minimal}
+use Rattle.stretches.proofs.Orders.{ends-true, ends-false}
+use Rattle.stretches.proofs.Tuples.{InAny, Picks}
 use Rattle.stretches.proofs.Answers.{AllRising, rising-mono-end, answer-cand, least-answer}
-use Rattle.stretches.proofs.Lists.{rising-minimal}
-use Rattle.stretches.specs.Stretch.{spans, tuples}
 
--- the least end; of equal ends, the greatest start
-abbrev pub wins : Stretch → Stretch → Bool
-wins x y = ltb (x .end) (y .end) || (eqb (x .end) (y .end) && leb (y .start) (x .start))
-
+-- the one with the least end; of equal ends, with the greatest start
 abbrev pub better : Front → Front → Front
 better None g = g
 better (At x) None = At x
-better (At x) (At y) = cond (wins x y) (At x) (At y)
+better (At x) (At y) = cond (endsFirst x y) (At x) (At y)
 
 abbrev pub bestFront : List (List Stretch) → ℕ → Front
 bestFront [] t = None
@@ -82,19 +79,6 @@ abbrev BestIs : List (List Stretch) → ℕ → Front → Type 0
 BestIs ls t None = (s e : ℕ) → InAny s e ls → s < t
 BestIs ls t (At x) = InAny (x .start) (x .end) ls × (t ≤ x .start) × ((s e : ℕ) → InAny s e ls → t ≤ s → (x .end ≤ e) × (e ≡ x .end → s ≤ x .start))
 
-pub wins-true : (x y : Stretch) → wins x y ≡ true → (x .end ≤ y .end) × (x .end ≡ y .end → y .start ≤ x .start)
-wins-true x y = cases (ltb (x .end) (y .end)) (λ b. b || (eqb (x .end) (y .end) && leb (y .start) (x .start)) ≡ true → (x .end ≤ y .end) × (x .end ≡ y .end → y .start ≤ x .start))
-    (λ k h. let i = ltb-true (x .end) (y .end) k in (omega arith, λ p. omega arith))
-    (λ k h. let j = and-true (eqb (x .end) (y .end)) (leb (y .start) (x .start)) h in (omega (arith, eqb-true (x .end) (y .end) (j .0)), λ p. leb-true (y .start) (x .start) (j .1)))
-
-pub wins-false : (x y : Stretch) → wins x y ≡ false → (y .end ≤ x .end) × (x .end ≡ y .end → x .start ≤ y .start)
-wins-false x y = cases (ltb (x .end) (y .end)) (λ b. b || (eqb (x .end) (y .end) && leb (y .start) (x .start)) ≡ false → (y .end ≤ x .end) × (x .end ≡ y .end → x .start ≤ y .start))
-    (λ k h. let z : _≡_ {A = ℕ} 0 1 = cc in absurd (omega arith))
-    (λ k h. (ltb-false (x .end) (y .end) k, λ p. start p h))
-  where
-    start : x .end ≡ y .end → eqb (x .end) (y .end) && leb (y .start) (x .start) ≡ false → x .start ≤ y .start
-    start p h = let k = eq-eqb (x .end) (y .end) p in let j : leb (y .start) (x .start) ≡ false = cc in omega (arith, leb-false (y .start) (x .start) j)
-
 module _ (l : List Stretch) (r : Rising l) (ls : List (List Stretch)) (t : ℕ) where
   none-none : FirstIs l t None → BestIs ls t None → (s e : ℕ) → InAny s e (l ∷ ls) → s < t
   none-none h k s e (inl m) = h s e m
@@ -121,9 +105,9 @@ module _ (l : List Stretch) (r : Rising l) (ls : List (List Stretch)) (t : ℕ) 
   better-good None None h k = none-none h k
   better-good None (At y) h k = (inr (k .0), k .1, none-at y h k)
   better-good (At x) None h k = (inl (h .0), h .1, at-none x h k)
-  better-good (At x) (At y) h k = cases (wins x y) (λ b. BestIs (l ∷ ls) t (cond b (At x) (At y)))
-      (λ w. let v = wins-true x y w in (inl (h .0), h .1, at-at x y x h k (omega arith, λ p. omega arith) (v .0, λ p. v .1 (sym p))))
-      (λ w. let v = wins-false x y w in (inr (k .0), k .1, at-at x y y h k (v .0, v .1) (omega arith, λ p. omega arith)))
+  better-good (At x) (At y) h k = cases (endsFirst x y) (λ b. BestIs (l ∷ ls) t (cond b (At x) (At y)))
+      (λ w. let v = ends-true x y w in (inl (h .0), h .1, at-at x y x h k (omega arith, λ p. omega arith) (v .0, λ p. v .1 (sym p))))
+      (λ w. let v = ends-false x y w in (inr (k .0), k .1, at-at x y y h k (v .0, v .1) (omega arith, λ p. omega arith)))
 
 best-good : (ls : List (List Stretch)) → AllRising ls → (t : ℕ) → BestIs ls t (bestFront ls t)
 best-good [] r t = λ s e m. absurd m
@@ -205,58 +189,3 @@ pub linked-anyhow : (t : List Stretch) → linked anyhow t ≡ true
 linked-anyhow [] = refl
 linked-anyhow (a ∷ []) = refl
 linked-anyhow (a ∷ (b ∷ t)) = linked-anyhow (b ∷ t)
-
--- the fronts at m span [m..R], those at t end by R and no earlier, and those at m + 1 end after R or are not all there
-pub and-front : (ls : List (List Stretch)) → AllRising ls → (t m R : ℕ) (a b : Stretch) (u v : List Stretch)
-    → FrontsAt t ls (a ∷ u) → high a u ≡ R → t ≤ m
-    → FrontsAt m ls (b ∷ v) → low b v ≡ m → high b v ≡ R
-    → ((c : Stretch) (w : List Stretch) → FrontsAt (suc m) ls (c ∷ w) → R < high c w)
-    → firstFrom (answers And ls) t ≡ At (st m R)
-and-front ls r t m R a b u v ft ht tm fm lm hm next =
-    first-is (answers And ls) (rising-minimal (spans (linked anyhow) (tuples ls))) t m R
-    (least-answer And ls m R
-    (record { first = b; rest = v; picks = fronts-picks ls r m (b ∷ v) fm .0; okay = linked-anyhow (b ∷ v); starts = sym lm; ends = sym hm })
-    (λ s e x p q. (omega (arith, shrunk s e x p q), omega (arith, ended s e x (omega arith)))))
-    tm (λ s e x p. ended s e (answer-cand And ls s e x) p)
-  where
-    -- every tuple from t on ends at R or later
-    ended : (s e : ℕ) → Span (linked anyhow) ls s e → t ≤ s → R ≤ e
-    ended s e x p =
-        omega (
-          arith,
-          x .ends,
-          to-high (high (x .first) (x .rest)) a u
-              (fronts-to ls r t (high (x .first) (x .rest)) (a ∷ u) (x .first ∷ x .rest) ft (x .picks) (low-from t (x .first) (x .rest) (omega (arith, x .starts))) (high-to (high (x .first) (x .rest)) (x .first) (x .rest) (omega arith))),
-        )
-
-    past : (s e : ℕ) → Span (linked anyhow) ls s e → e ≤ R → m < s → (w : List Stretch) → FrontsAt (suc m) ls w → ⊥
-    past s e x q k [] f = absurd-fronts ls f (x .picks)
-      where
-        absurd-fronts : (ls : List (List Stretch)) → FrontsAt (suc m) ls [] → Picks (x .first ∷ x .rest) ls → ⊥
-        absurd-fronts [] f p = p
-        absurd-fronts (l ∷ ls) f p = f
-    past s e x q k (c ∷ w) f =
-        omega (
-          arith,
-          next c w f,
-          to-high R c w
-              (fronts-to ls r (suc m) R (c ∷ w) (x .first ∷ x .rest) f (x .picks) (low-from (suc m) (x .first) (x .rest) (omega (arith, x .starts))) (high-to R (x .first) (x .rest) (omega (arith, x .ends)))),
-        )
-
-    -- no tuple inside [m..R] starts after m
-    shrunk : (s e : ℕ) → Span (linked anyhow) ls s e → m ≤ s → e ≤ R → s ≤ m
-    shrunk s e x p q = go (le-or-lt s m)
-      where
-        go : (s ≤ m) ⊎ (m < s) → s ≤ m
-        go (inl k) = k
-        go (inr k) =
-            let f = fronts-are ls r (suc m) (x .first ∷ x .rest) (x .picks) (low-from (suc m) (x .first) (x .rest) (omega (arith, x .starts))) in
-            absurd (past s e x q k (f .0) (f .1))
-
--- with no fronts of all lists from t on, none
-pub and-none : (ls : List (List Stretch)) → AllRising ls → (t : ℕ) → ((u : List Stretch) → FrontsAt t ls u → ⊥) → firstFrom (answers And ls) t ≡ None
-and-none ls r t f = first-none (answers And ls) (rising-minimal (spans (linked anyhow) (tuples ls))) t (λ s e m. go s e (answer-cand And ls s e m) (le-or-lt t s))
-  where
-    go : (s e : ℕ) → Span (linked anyhow) ls s e → (t ≤ s) ⊎ (s < t) → s < t
-    go s e x (inl k) = let g = fronts-are ls r t (x .first ∷ x .rest) (x .picks) (low-from t (x .first) (x .rest) (omega (arith, x .starts))) in absurd (f (g .0) (g .1))
-    go s e x (inr k) = k

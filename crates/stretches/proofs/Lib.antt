@@ -1,6 +1,7 @@
 pub mod Lists
 pub mod Tuples
 pub mod Answers
+pub mod Orders
 pub mod Fronts
 pub mod Window
 pub mod Cut
@@ -11,7 +12,6 @@ pub mod Tight
 pub mod Taking
 pub mod TakingAnd
 pub mod TakingCases
-pub mod TakingCounts
 pub mod TakingFigures
 pub mod TakingLoops
 pub mod TakingOr

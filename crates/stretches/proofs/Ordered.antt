@@ -1,14 +1,14 @@
 -- The fronts of row and of then, by chains of fronts: each from the line after the end of the one before.
 -- Assumes nothing.
-use Prim.Native.Nat.{ℕ, suc, _-_, _≤_, _<_}
-use mathlib.Core.Path.{_≡_, refl, sym, subst, _∙_}
+use Prim.Native.Nat.{ℕ, suc, _≤_, _<_}
+use mathlib.Core.Path.{_≡_, refl, sym, subst}
 use mathlib.Core.Logic.{_⊎_, inl, inr}
 use mathlib.Core.Bool.{true}
 use mathlib.Core.List.{List, [], _∷_}
 use borrow.Author.Tests.{ltb-true, eqb-true, lt-ltb, eq-eqb}
 use native.Mathlib.Omega.{arith}
-use Rattle.stretches.specs.Stretch.{Stretch, st, In, Rising, high, linked, adjoins, follows, spans, tuples, Row, Then, answers}
-use Rattle.stretches.proofs.Lists.{and-true, true-and, st-path, le-or-lt, rising-minimal}
+use Rattle.stretches.specs.Stretch.{Stretch, st, In, Rising, high, linked, adjoins, follows, Row, answers}
+use Rattle.stretches.proofs.Lists.{and-true, true-and, st-path, le-or-lt}
 use Rattle.stretches.proofs.Tuples.{Picks, Span}
 use Rattle.stretches.proofs.Answers.{AllRising, AllSound, rising-mono, rows-apart, answer-cand, least-answer, rising-answers, ordered-follows, ordered-adjoins, ordered-low, ordered-high}
 use Rattle.stretches.specs.Front.{Front, None, At, firstFrom}
@@ -75,54 +75,9 @@ chain-high (l ∷ (k ∷ ls)) r d m a b (a′ ∷ u) (b′ ∷ v) h p f =
     omega (arith, x, y, j)
 
 -- a span in order, from m on, as such a tuple
-module _ (ls : List (List Stretch)) (r : AllRising ls) (d : AllSound ls) where
-  pub span-after : (m s e : ℕ) (x : Span (linked follows) ls s e) → m ≤ s → After m (x .first ∷ x .rest)
-  span-after m s e x h =
-      linked-after m (x .first) (x .rest) (omega (arith, x .starts, ordered-low follows ordered-follows ls (x .first) (x .rest) d (x .picks) (x .okay))) (x .okay)
-
-  -- the chain from m on starts at m and ends at R, that from t on ends at R, and that from m + 1 on ends after R or is not there
-  pub then-front : (t m R : ℕ) (a b : Stretch) (u v : List Stretch)
-      → ChainAt t ls (a ∷ u) → high a u ≡ R → t ≤ m
-      → ChainAt m ls (b ∷ v) → b .start ≡ m → high b v ≡ R
-      → ((c : Stretch) (w : List Stretch) → ChainAt (suc m) ls (c ∷ w) → R < high c w)
-      → firstFrom (answers Then ls) t ≡ At (st m R)
-  then-front t m R a b u v ft ht tm fm lm hm next =
-      first-is (answers Then ls) (rising-minimal (spans (linked follows) (tuples ls))) t m R
-      (least-answer Then ls m R
-      (record { first = b; rest = v; picks = pm .0; okay = okm; starts = sym (ordered-low follows ordered-follows ls b v d (pm .0) okm ∙ lm); ends = sym hm })
-      (λ s e x p q. (omega (arith, shrunk s e x p q), omega (arith, ended s e x (omega arith)))))
-      tm (λ s e x p. ended s e (answer-cand Then ls s e x) p)
-    where
-      pm : Picks (b ∷ v) ls × After m (b ∷ v)
-      pm = chain-picks ls r m (b ∷ v) fm
-
-      okm : linked follows (b ∷ v) ≡ true
-      okm = after-linked m b v (pm .1)
-
-      ended : (s e : ℕ) → Span (linked follows) ls s e → t ≤ s → R ≤ e
-      ended s e x p = omega (arith, x .ends, chain-high ls r d t a (x .first) u (x .rest) ft (x .picks) (span-after t s e x p))
-
-      past : (s e : ℕ) → Span (linked follows) ls s e → e ≤ R → m < s → (w : List Stretch) → ChainAt (suc m) ls w → ⊥
-      past s e x q k [] f = none-there ls f (x .picks)
-        where
-          none-there : (ls : List (List Stretch)) → ChainAt (suc m) ls [] → Picks (x .first ∷ x .rest) ls → ⊥
-          none-there [] f p = p
-          none-there (l ∷ ls) f p = f
-      past s e x q k (c ∷ w) f = omega (arith, next c w f, x .ends, chain-high ls r d (suc m) c (x .first) w (x .rest) f (x .picks) (span-after (suc m) s e x k))
-
-      shrunk : (s e : ℕ) → Span (linked follows) ls s e → m ≤ s → e ≤ R → s ≤ m
-      shrunk s e x p q = go (le-or-lt s m)
-        where
-          go : (s ≤ m) ⊎ (m < s) → s ≤ m
-          go (inl k) = k
-          go (inr k) = let f = chain-is ls r (suc m) (x .first ∷ x .rest) (x .picks) (span-after (suc m) s e x k) in absurd (past s e x q k (f .0) (f .1))
-
-  pub then-none : (t : ℕ) → ((u : List Stretch) → ChainAt t ls u → ⊥) → firstFrom (answers Then ls) t ≡ None
-  then-none t f = first-none (answers Then ls) (rising-minimal (spans (linked follows) (tuples ls))) t (λ s e m. go s e (answer-cand Then ls s e m) (le-or-lt t s))
-    where
-      go : (s e : ℕ) → Span (linked follows) ls s e → (t ≤ s) ⊎ (s < t) → s < t
-      go s e x (inl k) = let g = chain-is ls r t (x .first ∷ x .rest) (x .picks) (span-after t s e x k) in absurd (f (g .0) (g .1))
-      go s e x (inr k) = k
+pub span-after : (ls : List (List Stretch)) → AllSound ls → (m s e : ℕ) (x : Span (linked follows) ls s e) → m ≤ s → After m (x .first ∷ x .rest)
+span-after ls d m s e x h =
+    linked-after m (x .first) (x .rest) (omega (arith, x .starts, ordered-low follows ordered-follows ls (x .first) (x .rest) d (x .picks) (x .okay))) (x .okay)
 
 -- ── row ──
 
@@ -157,20 +112,8 @@ picks-row (l ∷ (j ∷ ls)) r p a (b ∷ u) q m k =
     (subst (λ n. firstFrom l n ≡ At a) q (first-self l (r .0) a (m .0)), q, picks-row (j ∷ ls) (r .1) (suc (a .end)) b u (eqb-true (b .start) (suc (a .end)) (i .0)) (m .1) (i .1))
 
 module _ (l : List Stretch) (ls : List (List Stretch)) (r : AllRising (l ∷ ls)) (d : AllSound (l ∷ ls)) (t : ℕ) where
-  rowList : List Stretch
-  rowList = answers Row (l ∷ ls)
-
   row-start : (s e : ℕ) (x : Span (linked adjoins) (l ∷ ls) s e) → s ≡ x .first .start
   row-start s e x = omega (arith, x .starts, ordered-low adjoins ordered-adjoins (l ∷ ls) (x .first) (x .rest) d (x .picks) (x .okay))
-
-  pub row-none : firstFrom l t ≡ None → firstFrom (answers Row (l ∷ ls)) t ≡ None
-  row-none p = first-none (answers Row (l ∷ ls)) (rising-answers Row (l ∷ ls) r d) t (λ s e m. go s e (answer-cand Row (l ∷ ls) s e m))
-    where
-      g : FirstIs l t None
-      g = subst (FirstIs l t) p (first-good l (r .0) t)
-
-      go : (s e : ℕ) → Span (linked adjoins) (l ∷ ls) s e → s < t
-      go s e x = omega (arith, row-start s e x, g (x .first .start) (x .first .end) (x .picks .0))
 
   -- every row from t on starts at the front of the first list or later
   from-front : (x : Stretch) → firstFrom l t ≡ At x → (s e : ℕ) → Span (linked adjoins) (l ∷ ls) s e → t ≤ s → x .start ≤ s

@@ -1,6 +1,6 @@
 -- Algorithm 3: what is passed starts by the last answer's start, so every tuple from there on is among what is left, and the span of the tops ends no later than it.
 -- Assumes nothing.
-use Prim.Native.Nat.{ℕ, zero, suc, _-_, _≤_, _<_, min, max}
+use Prim.Native.Nat.{ℕ, zero, suc, _≤_, _<_, min, max}
 use mathlib.Core.Path.{_≡_, refl, sym, ap, subst, _∙_}
 use mathlib.Core.Logic.{_⊎_, inl, inr}
 use mathlib.Core.Bool.{true, false, cond}
@@ -14,7 +14,8 @@ use Rattle.stretches.proofs.Tuples.{InAny, Picks, Span, in-append, appe
 use Rattle.stretches.proofs.Answers.{AllRising, AllSound, rising-mono-end}
 use Rattle.stretches.proofs.Fronts.{From, To, low-from, from-low, high-to, linked-anyhow}
 use Rattle.stretches.proofs.Tight.{gone-front, tight-front}
-use Rattle.stretches.proofs.TakingQueue.{Part, part, done, left, whole, front, Parted, parted-fronts, parted-rising, any-parted, Moves, moves-total, moves-left, moves-done, Advanced, advanced, top-in, top-least, starts-ordering, starts-true}
+use Rattle.stretches.proofs.Orders.{starts-ordering, starts-true}
+use Rattle.stretches.proofs.TakingQueue.{Part, part, done, left, whole, front, Parted, parted-fronts, parted-rising, any-parted, Moves, moves-total, moves-left, moves-done, Advanced, advanced, top-in, top-least}
 use Rattle.stretches.proofs.TakingLoops.{span-lively, parted-total, skip-stops, past, GoesOn}
 
 -- ── The span of the tops ──

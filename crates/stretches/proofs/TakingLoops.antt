@@ -1,6 +1,6 @@
 -- The loops of the taking call end before their turns run out: each turn passes an item. So a loop of the document keeps what each turn keeps, until its test fails.
 -- Assumes nothing.
-use Prim.Native.Nat.{ℕ, zero, suc, _-_, _≤_, _<_}
+use Prim.Native.Nat.{ℕ, zero, suc, _≤_, _<_}
 use mathlib.Core.Path.{_≡_, refl, sym, ap, subst}
 use mathlib.Core.Bool.{true, false, cond}
 use mathlib.Core.List.{List, [], _∷_, map}
@@ -64,18 +64,6 @@ module _ (o : Order) (view : List Front → Front) (lively : Lively o view) (ls 
       (λ k. let m = skip-moves ks zs p k in
       skip-stops Inv keeps n (advance o ls ks) (m .2 .after) (m .2 .parted) (omega (arith, moves-total (m .2 .moves))) (keeps zs (m .2 .after) (m .0) ks p i k (m .1) (m .2 .moves)))
       (λ k. record { parts = zs; parted = p; holds = i; still = k }))
-
-  -- more turns than there are items left make no difference
-  pub skip-enough : (n m : ℕ) (ks : List ℕ) (zs : List Part) → Parted ls ks zs → total (map left zs) < n → total (map left zs) < m → skip n o view ls c ks ≡ skip m o view ls c ks
-  skip-enough zero m ks zs p h k = absurd (omega arith)
-  skip-enough (suc n) zero ks zs p h k = absurd (omega arith)
-  skip-enough (suc n) (suc m) ks zs p h k =
-      subst (λ fs. cond (contains (view fs) c) (skip n o view ls c (advance o ls ks)) ks ≡ cond (contains (view fs) c) (skip m o view ls c (advance o ls ks)) ks) (sym (parted-fronts ls ks zs p))
-      (cases (contains (view (map front zs)) c) (λ b. cond b (skip n o view ls c (advance o ls ks)) ks ≡ cond b (skip m o view ls c (advance o ls ks)) ks)
-      (λ b. let a = skip-moves ks zs p b in
-      let d = moves-total (a .2 .moves) in
-      skip-enough n m (advance o ls ks) (a .2 .after) (a .2 .parted) (omega arith) (omega arith))
-      (λ b. refl))
 
 -- ── From one answer to the next ──
 

@@ -1,6 +1,6 @@
 -- Algorithm 2: what is passed goes before all that is left and starts by the last answer's start. So the top is the next answer of or, and what is passed is what ends before it.
 -- Assumes nothing.
-use Prim.Native.Nat.{ℕ, suc, _+_, _-_, _≤_, _<_}
+use Prim.Native.Nat.{ℕ, suc, _≤_, _<_}
 use mathlib.Core.Path.{_≡_, refl, sym, ap, ap₂, subst, _∙_}
 use mathlib.Core.Logic.{_⊎_, inl, inr}
 use mathlib.Core.Bool.{true, false, cond}
@@ -16,7 +16,8 @@ use Rattle.stretches.proofs.Lists.{le-or-lt, inside-true, true-inside}
 use Rattle.stretches.proofs.Tuples.{InAny}
 use Rattle.stretches.proofs.Answers.{AllRising, AllSound}
 use Rattle.stretches.proofs.Tight.{gone-front, tight-front}
-use Rattle.stretches.proofs.TakingQueue.{Part, part, done, left, whole, count, front, Parted, parted-fronts, parted-rising, parted-any, any-parted, Moves, moves-left, moves-done, top-in, top-none, top-least, ends-ordering, ends-true}
+use Rattle.stretches.proofs.Orders.{ends-ordering, ends-true}
+use Rattle.stretches.proofs.TakingQueue.{Part, part, done, left, whole, count, front, Parted, parted-fronts, parted-rising, parted-any, any-parted, Moves, moves-left, moves-done, top-in, top-none, top-least}
 use Rattle.stretches.proofs.TakingLoops.{top-lively, parted-total, skip-stops, past, GoesOn}
 
 -- ── The counts ──

@@ -1,18 +1,17 @@
 -- The queue of the taking call, each list parted into the items passed and those from the top on: an advance passes the top, and the fronts of the counts are the tops.
 -- Assumes nothing.
-use Prim.Native.Nat.{ℕ, suc, _+_, _-_, _≤_, _<_}
+use Prim.Native.Nat.{ℕ, suc, _-_, _<_}
 use mathlib.Core.Path.{_≡_, refl, sym, ap, ap₂, subst, _∙_}
 use mathlib.Core.Logic.{_⊎_, inl, inr}
-use mathlib.Core.Bool.{true, false, cond, _&&_, _||_}
+use mathlib.Core.Bool.{true, false, cond}
 use mathlib.Core.List.{List, [], _∷_, _++_, map, append-assoc}
-use lib.Dec.{leb, ltb, eqb}
 use lib.ListN.{length, length-append}
-use borrow.Author.Tests.{ltb-true, ltb-false, leb-true, leb-false, eqb-true, le-leb, eq-eqb}
 use native.Mathlib.Omega.{arith}
 use Rattle.stretches.specs.Stretch.{Stretch, st, In, Rising}
 use Rattle.stretches.specs.Front.{Front, None, At, nth}
-use Rattle.stretches.specs.Taking.{fronts, Order, endsFirst, startsFirst, leads, top, topIndex, oneMore, advance, total}
-use Rattle.stretches.proofs.Lists.{cases, and-true, true-and}
+use Rattle.stretches.specs.Taking.{fronts, Order, leads, top, topIndex, oneMore, advance, total}
+use Rattle.stretches.proofs.Lists.{cases}
+use Rattle.stretches.proofs.Orders.{Ordering}
 use Rattle.stretches.proofs.Tuples.{InAny, in-append, append-right}
 use Rattle.stretches.proofs.Answers.{AllRising}
 
@@ -68,11 +67,6 @@ unfolding fresh
 fresh-done [] s e m = m
 fresh-done (l ∷ ls) s e (inl m) = m
 fresh-done (l ∷ ls) s e (inr m) = fresh-done ls s e m
-
-pub fresh-left : (ls : List (List Stretch)) → map left (fresh ls) ≡ ls
-unfolding fresh
-fresh-left [] = refl
-fresh-left (l ∷ ls) = ap (λ m. l ∷ m) (fresh-left ls)
 
 -- ── An advance ──
 
@@ -169,60 +163,6 @@ top-none o [] h s e m = m
 top-none o (part d [] ∷ zs) h s e (inl m) = m
 top-none o (part d [] ∷ zs) h s e (inr m) = top-none o zs h s e m
 top-none o (part d (y ∷ q) ∷ zs) h s e m = let g = top-some o y (map front zs) in let z : _≡_ {A = ℕ} 0 1 = cc (g .1) in omega arith
-
--- what both priority orders are
-pub record Ordering (o : Order) : Type 0 where
-  pub self : (x : Stretch) → o x x ≡ true
-  pub through : (x y z : Stretch) → o x y ≡ true → o y z ≡ true → o x z ≡ true
-  pub turned : (x y : Stretch) → o x y ≡ false → o y x ≡ true
-  pub rises : (x y : Stretch) → x .start < y .start → x .end < y .end → o x y ≡ true
-
--- by a first number, and where that is alike by a second one downwards
-order-true : (a b c d : ℕ) → ltb a b || (eqb a b && leb d c) ≡ true → (a ≤ b) × (a ≡ b → d ≤ c)
-order-true a b c d = cases (ltb a b) (λ t. t || (eqb a b && leb d c) ≡ true → (a ≤ b) × (a ≡ b → d ≤ c))
-    (λ k h. let i = ltb-true a b k in (omega arith, λ p. omega arith))
-    (λ k h. let j = and-true (eqb a b) (leb d c) h in (omega (arith, eqb-true a b (j .0)), λ p. leb-true d c (j .1)))
-
-true-order : (a b c d : ℕ) → a ≤ b → (a ≡ b → d ≤ c) → ltb a b || (eqb a b && leb d c) ≡ true
-true-order a b c d h f = cases (ltb a b) (λ t. t || (eqb a b && leb d c) ≡ true) (λ k. refl)
-    (λ k. let e : a ≡ b = omega (arith, ltb-false a b k) in true-and (eqb a b) (leb d c) (eq-eqb a b e) (le-leb d c (f e)))
-
-order-false : (a b c d : ℕ) → ltb a b || (eqb a b && leb d c) ≡ false → (b ≤ a) × (b ≡ a → c ≤ d)
-order-false a b c d = cases (ltb a b) (λ t. t || (eqb a b && leb d c) ≡ false → (b ≤ a) × (b ≡ a → c ≤ d))
-    (λ k h. let z : _≡_ {A = ℕ} 0 1 = cc in absurd (omega arith))
-    (λ k h. (ltb-false a b k, λ p. tail p h))
-  where
-    tail : b ≡ a → eqb a b && leb d c ≡ false → c ≤ d
-    tail p h = let j = eq-eqb a b (sym p) in let i : leb d c ≡ false = cc in omega (arith, leb-false d c i)
-
-pub ends-true : (x y : Stretch) → endsFirst x y ≡ true → (x .end ≤ y .end) × (x .end ≡ y .end → y .start ≤ x .start)
-ends-true x y = order-true (x .end) (y .end) (x .start) (y .start)
-
-pub starts-true : (x y : Stretch) → startsFirst x y ≡ true → (x .start ≤ y .start) × (x .start ≡ y .start → y .end ≤ x .end)
-starts-true x y = order-true (x .start) (y .start) (x .end) (y .end)
-
--- the law of both orders, for the numbers that each compares
-module _ (f g : Stretch → ℕ) where
-  by-two : Order
-  by-two x y = ltb (f x) (f y) || (eqb (f x) (f y) && leb (g y) (g x))
-
-  two-ordering : ((x y : Stretch) → x .start < y .start → x .end < y .end → f x < f y) → Ordering by-two
-  unfolding by-two
-  two-ordering r = record {
-    self = λ x. true-order (f x) (f x) (g x) (g x) (omega arith) (λ p. omega arith);
-    through = λ x y z h k. let i = order-true (f x) (f y) (g x) (g y) h in let j = order-true (f y) (f z) (g y) (g z) k in
-        true-order (f x) (f z) (g x) (g z) (omega arith) (λ p. omega (arith, i .1 (omega arith), j .1 (omega arith)));
-    turned = λ x y h. let i = order-false (f x) (f y) (g x) (g y) h in true-order (f y) (f x) (g y) (g x) (i .0) (λ p. i .1 p);
-    rises = λ x y h k. true-order (f x) (f y) (g x) (g y) (omega (arith, r x y h k)) (λ p. absurd (omega (arith, r x y h k)));
-  }
-
-pub ends-ordering : Ordering endsFirst
-unfolding by-two
-ends-ordering = two-ordering (λ x. x .end) (λ x. x .start) (λ x y h k. k)
-
-pub starts-ordering : Ordering startsFirst
-unfolding by-two
-starts-ordering = two-ordering (λ x. x .start) (λ x. x .end) (λ x y h k. h)
 
 -- the top goes before all that is left
 least-list : (o : Order) → Ordering o → (y : Stretch) (q : List Stretch) → Rising (y ∷ q) → (s e : ℕ) → In s e (y ∷ q) → o y (st s e) ≡ true

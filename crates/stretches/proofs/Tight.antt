@@ -79,14 +79,14 @@ module _ (ls : List (List Stretch)) (r : AllRising ls) (d : AllSound ls) (t : �
       record {
         cand = record { first = a; rest = u; picks = k .0; okay = ok; starts = sym (ordered-low follows ordered-follows ls a u d (k .0) ok); ends = refl };
         from = k .1 .0;
-        least = λ s e x p. omega (arith, x .ends, chain-high ls r d t a (x .first) u (x .rest) h (x .picks) (span-after ls r d t s e x p));
+        least = λ s e x p. omega (arith, x .ends, chain-high ls r d t a (x .first) u (x .rest) h (x .picks) (span-after ls d t s e x p));
       }
 
   pub then-gone : ((u : List Stretch) → ChainAt t ls u → ⊥) → Gone Then ls t
   then-gone f s e x = go (le-or-lt t s)
     where
       go : (t ≤ s) ⊎ (s < t) → s < t
-      go (inl k) = let g = chain-is ls r t (x .first ∷ x .rest) (x .picks) (span-after ls r d t s e x k) in absurd (f (g .0) (g .1))
+      go (inl k) = let g = chain-is ls r t (x .first ∷ x .rest) (x .picks) (span-after ls d t s e x k) in absurd (f (g .0) (g .1))
       go (inr k) = k
 
   -- a row is a chain too

@@ -1,6 +1,6 @@
 -- Stretches of lines, rising lists of them, and what the six operators answer: document 001 section 3, and the paper's "What the operators mean".
 -- Assumes nothing.
-use Prim.Native.Nat.{ℕ, suc, _+_, _-_, _<_, min, max}
+use Prim.Native.Nat.{ℕ, suc, _-_, _<_, min, max}
 use mathlib.Core.Path.{_≡_}
 use mathlib.Core.Logic.{_⊎_}
 use mathlib.Core.Bool.{Bool, true, not, cond, _&&_, _||_}

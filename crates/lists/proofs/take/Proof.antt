@@ -1,7 +1,6 @@
 -- `take` meets its contract: a refusal changes nothing, and an accepted call hands out what the run found. Assumes nothing.
 use borrow.Author.Needs.{needs}
 use denote.Ref.{now}
-use lib.Dec.{eqb}
 use Rattle.lists.proofs.Accepting.{take-refused, take-kept, takes, take-given, take-counted, take-found, take-none}
 use Rattle.lists.proofs.take.Statement.{statement}
 use Rattle.lists.proofs.take.Tie as tie

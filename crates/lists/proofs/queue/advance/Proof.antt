@@ -2,7 +2,7 @@
 use native.Mathlib.Omega.{arith}
 use borrow.Author.Needs.{needs}
 use denote.Ref.{now}
-use Rattle.lists.proofs.Tops.{Movable, movable, moved-top, moved-none}
+use Rattle.lists.proofs.Tops.{movable, moved-top, moved-none}
 use Rattle.lists.proofs.queue.advance.Statement.{statement}
 use Rattle.lists.proofs.queue.advance.Tie as tie
 

@@ -41,13 +41,13 @@ nothing-requires : tie.Need-nothing-requires
 nothing-requires c κs = search needs
 
 returns : tie.Need-returns
-returns c = c .nothing .ensures ∙ item-none (now (c .before .before .before .before .before .before .before .before .before .before .args .items)) (now (c .before .before .before .before .before .before .before .before .before .before .args .ends)) (now (c .before .before .before .before .before .before .before .before .before .before .args .counts)) (c .before .before .before .before .before .before .before .before .before .before .pre .0 .cut) (c .before .before .before .before .before .before .before .before .before .before .args .i) (c .before .before .before .before .before .before .start-of .result) (c .before .before .before .before .wide .result) (c .before .before .less-one .result) (c .before .before .before .before .before .before .before .before .before .before .pre .1) (c .before .before .before .before .before .before .start-of .ensures .0) (c .before .before .before .before .wide .ensures .0) (c .before .before .less-one .ensures .0) (c .before .if1 .taken)
+returns c = c .nothing .ensures ∙ item-none (now (c .before .before .before .before .before .before .before .before .before .before .args .items)) (now (c .before .before .before .before .before .before .before .before .before .before .args .ends)) (now (c .before .before .before .before .before .before .before .before .before .before .args .counts)) (c .before .before .before .before .before .before .before .before .before .before .pre .0 .cut) (c .before .before .before .before .before .before .before .before .before .before .args .i) (c .before .before .before .before .before .before .start-of .result) (c .before .before .before .before .wide .result) (c .before .before .less-one .result) (c .before .before .before .before .before .before .start-of .ensures .0) (c .before .before .before .before .wide .ensures .0) (c .before .before .less-one .ensures .0) (c .before .if1 .taken)
 
 mul-t9 : tie.Need-mul-t9
 mul-t9 c = search needs
 
 shared-slice-read-t11 : tie.Need-shared-slice-read-t11
-shared-slice-read-t11 c = omega (arith, item-inside (now (c .before .before .before .before .before .before .before .before .before .before .args .items)) (now (c .before .before .before .before .before .before .before .before .before .before .args .ends)) (now (c .before .before .before .before .before .before .before .before .before .before .args .counts)) (c .before .before .before .before .before .before .before .before .before .before .pre .0 .cut) (c .before .before .before .before .before .before .before .before .before .before .args .i) (c .before .before .before .before .before .before .start-of .result) (c .before .before .before .before .wide .result) (c .before .before .less-one .result) (c .before .before .before .before .before .before .before .before .before .before .pre .1) (c .before .before .before .before .before .before .start-of .ensures .0) (c .before .before .before .before .wide .ensures .0) (c .before .before .less-one .ensures .0) (c .before .if1 .left))
+shared-slice-read-t11 c = omega (arith, item-inside (now (c .before .before .before .before .before .before .before .before .before .before .args .items)) (now (c .before .before .before .before .before .before .before .before .before .before .args .ends)) (now (c .before .before .before .before .before .before .before .before .before .before .args .counts)) (c .before .before .before .before .before .before .before .before .before .before .pre .0 .cut) (c .before .before .before .before .before .before .before .before .before .before .args .i) (c .before .before .before .before .before .before .start-of .result) (c .before .before .before .before .wide .result) (c .before .before .less-one .result) (c .before .before .before .before .before .before .start-of .ensures .0) (c .before .before .before .before .wide .ensures .0) (c .before .before .less-one .ensures .0) (c .before .if1 .left))
 
 add-t15 : tie.Need-add-t15
 add-t15 c = search needs
@@ -56,10 +56,10 @@ mul-t16 : tie.Need-mul-t16
 mul-t16 c = search needs
 
 shared-slice-read-t18 : tie.Need-shared-slice-read-t18
-shared-slice-read-t18 c = omega (arith, item-inside (now (c .before .before .before .before .before .before .before .before .before .before .before .args .items)) (now (c .before .before .before .before .before .before .before .before .before .before .before .args .ends)) (now (c .before .before .before .before .before .before .before .before .before .before .before .args .counts)) (c .before .before .before .before .before .before .before .before .before .before .before .pre .0 .cut) (c .before .before .before .before .before .before .before .before .before .before .before .args .i) (c .before .before .before .before .before .before .before .start-of .result) (c .before .before .before .before .before .wide .result) (c .before .before .before .less-one .result) (c .before .before .before .before .before .before .before .before .before .before .before .pre .1) (c .before .before .before .before .before .before .before .start-of .ensures .0) (c .before .before .before .before .before .wide .ensures .0) (c .before .before .before .less-one .ensures .0) (c .before .before .if1 .left))
+shared-slice-read-t18 c = omega (arith, item-inside (now (c .before .before .before .before .before .before .before .before .before .before .before .args .items)) (now (c .before .before .before .before .before .before .before .before .before .before .before .args .ends)) (now (c .before .before .before .before .before .before .before .before .before .before .before .args .counts)) (c .before .before .before .before .before .before .before .before .before .before .before .pre .0 .cut) (c .before .before .before .before .before .before .before .before .before .before .before .args .i) (c .before .before .before .before .before .before .before .start-of .result) (c .before .before .before .before .before .wide .result) (c .before .before .before .less-one .result) (c .before .before .before .before .before .before .before .start-of .ensures .0) (c .before .before .before .before .before .wide .ensures .0) (c .before .before .before .less-one .ensures .0) (c .before .before .if1 .left))
 
 returns-2 : tie.Need-returns-2
-returns-2 c = item-there (now (c .before .before .before .before .before .before .before .before .before .before .before .args .items)) (now (c .before .before .before .before .before .before .before .before .before .before .before .args .ends)) (now (c .before .before .before .before .before .before .before .before .before .before .before .args .counts)) (c .before .before .before .before .before .before .before .before .before .before .before .pre .0 .cut) (c .before .before .before .before .before .before .before .before .before .before .before .args .i) (c .before .before .before .before .before .before .before .start-of .result) (c .before .before .before .before .before .wide .result) (c .before .before .before .less-one .result) (c .before .before .before .before .before .before .before .before .before .before .before .pre .1) (c .before .before .before .before .before .before .before .start-of .ensures .0) (c .before .before .before .before .before .wide .ensures .0) (c .before .before .before .less-one .ensures .0) (c .before .before .if1 .left)
+returns-2 c = item-there (now (c .before .before .before .before .before .before .before .before .before .before .before .args .items)) (now (c .before .before .before .before .before .before .before .before .before .before .before .args .ends)) (now (c .before .before .before .before .before .before .before .before .before .before .before .args .counts)) (c .before .before .before .before .before .before .before .before .before .before .before .pre .0 .cut) (c .before .before .before .before .before .before .before .before .before .before .before .args .i) (c .before .before .before .before .before .before .before .start-of .result) (c .before .before .before .before .before .wide .result) (c .before .before .before .less-one .result) (c .before .before .before .before .before .before .before .start-of .ensures .0) (c .before .before .before .before .before .wide .ensures .0) (c .before .before .before .less-one .ensures .0) (c .before .before .if1 .left)
 
 pub item-at-spec : {M : Type 1} → statement M
 item-at-spec =

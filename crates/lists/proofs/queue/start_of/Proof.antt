@@ -2,7 +2,7 @@
 use borrow.Author.Needs.{needs}
 use mathlib.Core.Path.{_∙_}
 use denote.Ref.{now}
-use Rattle.lists.proofs.Queues.{start-later}
+use Rattle.meaning.proofs.Lent.{start-later}
 use Rattle.lists.proofs.queue.start_of.Statement.{statement}
 use Rattle.lists.proofs.queue.start_of.Tie as tie
 

@@ -2,11 +2,12 @@
 use native.Mathlib.Omega.{arith}
 use borrow.Author.Needs.{needs}
 use Prim.Native.Nat.{_-_, _≤_}
-use mathlib.Core.Path.{_≡_, refl, sym, ap, _∙_}
+use mathlib.Core.Path.{_≡_, refl, sym, _∙_}
 use mathlib.Core.Bool.{false}
 use lib.ListN.{length, drop}
 use denote.Ref.{now}
-use Rattle.meaning.specs.Lent.{miscutFrom, listsFrom, disordered}
+use Rattle.meaning.specs.Lent.{listsFrom}
+use Rattle.meaning.specs.Refusals.{miscutFrom, disordered}
 use Rattle.lists.proofs.Cutting.{right-at}
 use Rattle.lists.proofs.Ordering.{lists-wrong, lists-on, lists-over}
 use Rattle.lists.proofs.refusals.disordered.Statement.{statement}

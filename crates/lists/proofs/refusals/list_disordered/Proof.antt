@@ -1,14 +1,15 @@
 -- `list_disordered` meets its contract. The loop's invariant: with the least start and end, and the stretches that are left, the list is as it was at first. Assumes nothing.
 use native.Mathlib.Omega.{arith}
 use borrow.Author.Needs.{needs}
-use Prim.Native.Nat.{_-_, _+_, _≤_, _<_}
-use mathlib.Core.Path.{_≡_, refl, sym, ap, _∙_}
+use Prim.Native.Nat.{_-_, _≤_}
+use mathlib.Core.Path.{_≡_, sym, _∙_}
 use lib.ListN.{length}
-use Rattle.lists.proofs.Ordering.{part, unrisen, list-unrisen, list-wrong, list-on, list-over}
+use Rattle.lists.proofs.Ordering.{unrisen, list-unrisen, list-wrong, list-on, list-over}
 use denote.Ref.{now}
 use mathlib.Core.Logic.{inl, inr}
 use Rattle.lists.proofs.refusals.list_disordered.Statement.{statement}
 use Rattle.lists.proofs.refusals.list_disordered.Tie as tie
+use Rattle.meaning.specs.Lent.{part}
 
 abbrev Inv-loop : tie.InvT-loop
 Inv-loop items lo hi a₀ b₀ i₀ a b i = (hi ≤ length items) × (a ≤ 4294967296) × (b ≤ 4294967296) × (unrisen 0 0 (part items lo hi) ≡ unrisen a b (part items i hi))

@@ -2,9 +2,9 @@
 use native.Mathlib.Omega.{arith}
 use borrow.Author.Needs.{needs}
 use Prim.Native.Nat.{_-_, _≤_}
-use mathlib.Core.Path.{_≡_, refl, sym, ap, _∙_}
+use mathlib.Core.Path.{_≡_, sym, _∙_}
 use lib.ListN.{length, drop}
-use Rattle.meaning.specs.Lent.{miscutFrom}
+use Rattle.meaning.specs.Refusals.{miscutFrom}
 use Rattle.lists.proofs.Cutting.{cut-odd, cut-back, cut-on, cut-over}
 use denote.Ref.{now}
 use Rattle.lists.proofs.refusals.miscut.Statement.{statement}

@@ -1,7 +1,7 @@
 -- `refusal` meets its contract: each return is the definition at the tests that led there. Assumes nothing.
 use borrow.Author.Needs.{needs}
 use mathlib.Core.Path.{sym, _∙_}
-use Rattle.lists.specs.Refusals.{listsRefusal}
+use Rattle.meaning.specs.Refusals.{listsRefusal}
 use Rattle.lists.proofs.refusals.refusal.Statement.{statement}
 use Rattle.lists.proofs.refusals.refusal.Tie as tie
 

@@ -1,7 +1,7 @@
 -- `taking_refusal` meets its contract: each return is the definition at the tests that led there. Assumes nothing.
 use borrow.Author.Needs.{needs}
 use mathlib.Core.Path.{sym, _∙_}
-use Rattle.lists.specs.Refusals.{takingRefusal}
+use Rattle.meaning.specs.Refusals.{takingRefusal}
 use Rattle.lists.proofs.refusals.taking_refusal.Statement.{statement}
 use Rattle.lists.proofs.refusals.taking_refusal.Tie as tie
 

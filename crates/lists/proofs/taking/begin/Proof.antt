@@ -1,11 +1,11 @@
 -- `begin` meets its contract. The loop's invariant: the first i cells are 1, and the others as they were. Assumes nothing.
 use native.Mathlib.Omega.{arith}
 use borrow.Author.Needs.{needs}
-use mathlib.Core.Path.{_≡_, refl, ap, _∙_}
+use mathlib.Core.Path.{_≡_, ap, _∙_}
 use Prim.Native.Nat.{_≤_, _-_}
 use mathlib.Core.List.{_++_}
 use lib.ListN.{length, replicate, drop}
-use borrow.Author.Fill.{fill-none, fill-more}
+use borrow.Author.Fill.{fill-more}
 use lib.ListN.{set, length-set}
 use denote.Ref.{now}
 use Rattle.lists.proofs.Runs.{begun-cells}

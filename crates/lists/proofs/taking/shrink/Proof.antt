@@ -1,11 +1,10 @@
 -- `shrink` meets its contract. The loop's invariant: with the turns left, the candidate and the counts lead to what they led to at first. Assumes nothing.
 use native.Mathlib.Omega.{arith}
 use borrow.Author.Needs.{needs}
-use mathlib.Core.Path.{_≡_, refl, sym, ap, ap₂, _∙_}
-use Prim.Native.Nat.{_-_}
+use mathlib.Core.Path.{refl, sym, ap, _∙_}
 use denote.Ref.{now}
 use Rattle.stretches.specs.Stretch.{st}
-use Rattle.lists.specs.Queue.{frontOf, Lent}
+use Rattle.lists.specs.Queue.{Lent}
 use Rattle.lists.proofs.Turns.{Shrinking, shrink-start, shrink-at-top, shrink-still, shrink-turn, shrink-done, lent-kept}
 use borrow.Author.Tests.{not-true, not-false}
 use Rattle.stretches.specs.Taking.{isTop}

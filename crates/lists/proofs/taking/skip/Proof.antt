@@ -1,8 +1,7 @@
 -- `skip` meets its contract. The loop's invariant: with the turns left, the counts lead to what they led to at first. Assumes nothing.
 use native.Mathlib.Omega.{arith}
 use borrow.Author.Needs.{needs}
-use mathlib.Core.Path.{_≡_, refl, sym, ap, ap₂, _∙_}
-use Prim.Native.Nat.{_-_}
+use mathlib.Core.Path.{sym, ap, _∙_}
 use denote.Ref.{now}
 use Rattle.lists.specs.Queue.{frontOf, Lent}
 use Rattle.lists.proofs.Turns.{Skipping, skip-start, skip-stop, skip-done, skip-turn, lent-kept}

@@ -4,7 +4,7 @@ use native.Mathlib.Omega.{arith}
 use mathlib.Core.Path.{_≡_, refl}
 use Prim.Native.Nat.{_-_, _≤_}
 use Rattle.stretches.specs.Front.{firstFrom}
-use Rattle.seek.specs.Leaves.{part}
+use Rattle.meaning.specs.Lent.{part}
 use Rattle.seek.proofs.ListLaws.{ran-turn}
 use borrow.Author.Needs.{needs}
 use Rattle.seek.proofs.lists.run.Statement.{statement}

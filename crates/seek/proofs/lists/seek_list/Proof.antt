@@ -5,7 +5,7 @@ use Prim.Native.Nat.{_+_, _<_}
 use native.Mathlib.Omega.{arith}
 use lib.ListN.{length, getD}
 use Rattle.pattern.specs.Rows.{firstAt}
-use Rattle.seek.specs.Leaves.{startOf}
+use Rattle.meaning.specs.Lent.{startOf}
 use Rattle.seek.proofs.ListLaws.{list-empty, list-outside, list-none, list-at, hinted-set}
 use borrow.Author.Needs.{needs}
 use Rattle.seek.proofs.lists.seek_list.Statement.{statement}

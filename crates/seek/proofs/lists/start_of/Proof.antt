@@ -1,7 +1,7 @@
 -- `seek::lists::start_of` meets its contract. The list before ends at the place before.
 -- Assumes nothing.
-use mathlib.Core.Path.{_∙_, sym}
-use Rattle.seek.proofs.ListLaws.{start-after}
+use mathlib.Core.Path.{_∙_}
+use Rattle.meaning.proofs.Lent.{start-later}
 use borrow.Author.Needs.{needs}
 use Rattle.seek.proofs.lists.start_of.Statement.{statement}
 use Rattle.seek.proofs.lists.start_of.Tie as tie
@@ -22,7 +22,7 @@ wide-requires : tie.Need-wide-requires
 wide-requires c κs = search needs
 
 returns-2 : tie.Need-returns-2
-returns-2 c = c .wide .ensures .0 ∙ sym (start-after (c .before .before .before .before .args .ends .now) (c .before .before .before .before .args .k) (c .before .before .if1 .left))
+returns-2 c = c .wide .ensures .0 ∙ start-later (c .before .before .before .before .args .ends .now) (c .before .before .before .before .args .k) (c .before .before .if1 .left)
 
 pub start-of-spec : {M : Type 1} → statement M
 start-of-spec =
