@@ -63,34 +63,6 @@ fn row(name: &str, pattern: &str, log: &[u8], pairs: usize) {
     print_row(name, log.len(), found, times);
 }
 
-/// Reading every line of a log, where the archive has a call for it (build with `--cfg line_reader`): the number of lines in bits 0-31,
-/// of damaged ones in bits 32-63.
-#[cfg(line_reader)]
-fn reading(name: &str, log: &[u8]) {
-    extern "C" {
-        fn finder_read_lines(log: *const u8, log_len: usize) -> u64;
-    }
-    let finder = |log: &[u8]| unsafe { finder_read_lines(log.as_ptr(), log.len()) };
-    let plain = |log: &[u8]| {
-        let mut damaged = 0u64;
-        let lines = quick::read_log(log, |_, line| damaged += u64::from(line.is_none()));
-        u64::from(lines) | damaged << 32
-    };
-    assert_eq!(finder(log), plain(log), "{name}: the results differ");
-    let times = side_by_side(
-        || {
-            black_box(finder(black_box(log)));
-        },
-        || {
-            black_box(plain(black_box(log)));
-        },
-    );
-    print_row(name, log.len(), 0, times);
-}
-
-#[cfg(not(line_reader))]
-fn reading(_: &str, _: &[u8]) {}
-
 fn leaves(operator: &str) -> String {
     let leaf = |i: usize| format!(",ev,{},{}", [2, 3, 7, 9, 12][i % 5], i % 13);
     (0..31).fold(format!("{operator},31"), |text, i| text + &leaf(i))
@@ -114,8 +86,6 @@ fn main() {
     row("3,000 lines, six, first answer only", SIX, &evening, 1);
     row("full log, six operators", SIX, &full, 6_000);
     row("full log of line feeds", SIX, &vec![b'\n'; reference::LOG_MAX], 1);
-    reading("3,000 lines read", &evening);
-    reading("full log read", &full);
     for part in [32, 16, 8, 4, 2, 1] {
         row(&format!("six operators, 1/{part} of a full log"), SIX, &full[..reference::LOG_MAX / part], 6_000);
     }
