@@ -10,7 +10,7 @@ use lib.Dec.{leb, ltb, eqb}
 use borrow.Author.Tests.{eq-eqb, ne-eqb, leb-true, ltb-false, not-false}
 use Rattle.stretches.specs.Taking as algorithm
 use Rattle.stretches.specs.Taking.{taking}
-use Rattle.stretches.proofs.Lists.{and-true}
+use Rattle.basics.proofs.Basics.{and-true, or-false}
 use Rattle.pattern.specs.Rows.{symbol}
 use Rattle.meaning.specs.Lent.{listsOf, operatorOf}
 use Rattle.meaning.specs.Refusals.{takesLists, mistaken, miscut, disordered, lowest, takingRefusal}
@@ -18,7 +18,6 @@ use Rattle.lists.specs.declared.queue.Item.{Item}
 use Rattle.lists.specs.declared.Taken.{Taken}
 use Rattle.lists.specs.Taking.{takenBy, given, notTaken, takeResult, takeCells}
 use Rattle.lists.specs.Queue.{frontOf, opOf, Lent, handed, Handed}
-use Rattle.lists.proofs.Cutting.{or-false}
 use Rattle.lists.proofs.Tops.{front-at, front-none}
 
 -- none of 6 to 8 applies

@@ -1,27 +1,15 @@
 -- The cut of lent lists: what the reader of the end places finds at each, and what a right cut says of the places.
 -- Each law opens the list of end places at one place. Assumes nothing.
-use Prim.Native.Nat.{ℕ, suc, _+_, _%_, _≤_, _<_}
-use mathlib.Core.Path.{_≡_, refl, sym, ap, ap₂, _∙_}
-use mathlib.Core.Bool.{Bool, true, false, not, _||_}
+use Prim.Native.Nat.{ℕ, _+_, _%_, _≤_, _<_}
+use mathlib.Core.Path.{_≡_, sym, ap, ap₂, _∙_}
+use mathlib.Core.Bool.{true, false, not, _||_}
 use mathlib.Core.List.{List, [], _∷_}
 use native.Mathlib.Omega.{arith}
 use lib.ListN.{length, getD, drop, drop-of-length-le}
-use lib.Seq.{drop-cons}
 use lib.Dec.{ltb, eqb}
 use borrow.Author.Tests.{eq-eqb, ne-eqb, lt-ltb, le-ltb, eqb-true, ltb-false, not-false}
-use Rattle.pattern.proofs.Basics.{or-left, or-right}
+use Rattle.basics.proofs.Basics.{or-left, or-right, or-false, open-at}
 use Rattle.meaning.specs.Refusals.{miscutFrom}
-
--- ── Bools ──
-
-pub or-false : (a b : Bool) → a || b ≡ false → (a ≡ false) × (b ≡ false)
-or-false true b e = let z : _≡_ {A = Bool} true false = e in (z, cc)
-or-false false b e = (refl, e)
-
--- ── Lists, opened at a place ──
-
-pub open-at : (l : List ℕ) (i : ℕ) → i < length l → drop i l ≡ getD l i 0 ∷ drop (i + 1) l
-open-at l i h = let z : suc i ≡ i + 1 = omega arith in drop-cons l i 0 h ∙ ap (λ (n : ℕ). getD l i 0 ∷ drop n l) z
 
 -- ── The cut ──
 

@@ -9,7 +9,7 @@ use lib.ListN.{length, getD}
 use lib.Dec.{leb, eqb}
 use borrow.Author.Tests.{eq-eqb, ne-eqb, leb-true, not-false}
 use Rattle.stretches.specs.Stretch.{Stretch}
-use Rattle.stretches.proofs.Lists.{and-true}
+use Rattle.basics.proofs.Basics.{and-true, or-false}
 use Rattle.meaning.specs.Filling.{filled}
 use Rattle.meaning.specs.Lent.{listsOf}
 use Rattle.meaning.proofs.Tree.{Fine, AllFine}
@@ -21,7 +21,6 @@ use Rattle.seek.specs.Steps.{Filling, FillAll}
 use Rattle.seek.proofs.Sources.{good-lists}
 use Rattle.lists.specs.Filling.{listAnswers, walked, notFilled, fillResult, fillCells}
 use Rattle.lists.specs.Table.{symbolOf, Laid}
-use Rattle.lists.proofs.Cutting.{or-false}
 use Rattle.lists.proofs.Ordering.{fine-lists}
 use Rattle.lists.proofs.Queues.{ends-inside}
 use Rattle.lists.proofs.Laying.{Ranked, ranked, laid-fits, laid-answers}

@@ -12,7 +12,7 @@ use lib.Dec.{leb}
 use borrow.Author.Tests.{leb-true, eqb-true}
 use Rattle.stretches.specs.Stretch.{lengthOf}
 use Rattle.stretches.specs.Stretch as operators
-use Rattle.stretches.proofs.Lists.{le-or-lt, and-true}
+use Rattle.basics.proofs.Basics.{le-or-lt, and-true}
 use Rattle.pattern.specs.Pattern.{Ev, Or, And, Row, Then, Less, Max}
 use Rattle.pattern.specs.Rows.{kindOf, firstOf, secondOf, Entry, symbol}
 use Rattle.meaning.specs.Meaning.{eval}

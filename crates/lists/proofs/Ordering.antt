@@ -12,12 +12,11 @@ use borrow.Author.Tests.{lt-ltb, le-ltb, ltb-false}
 use Rattle.stretches.specs.Stretch.{Stretch, st, In}
 use Rattle.stretches.proofs.Answers.{Sound}
 use Rattle.stretches.proofs.Cut.{Below}
-use Rattle.pattern.proofs.Basics.{or-left, or-right}
+use Rattle.basics.proofs.Basics.{or-left, or-right, or-false, open-at}
 use Rattle.meaning.specs.Lent.{listsFrom, part}
 use Rattle.meaning.proofs.Tree.{Fine, AllFine}
 use Rattle.meaning.specs.Refusals.{spoiled, disorderedAfter, disorderedList, disordered}
 use Rattle.meaning.proofs.Lent.{part-cons, part-nil}
-use Rattle.lists.proofs.Cutting.{or-false, open-at}
 
 -- ── One list ──
 

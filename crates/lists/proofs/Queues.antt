@@ -10,7 +10,7 @@ use lib.ListN.{length, getD}
 use lib.Dec.{ltb, eqb}
 use borrow.Author.Tests.{lt-ltb, le-ltb, eq-eqb, ne-eqb}
 use Rattle.stretches.specs.Stretch.{Stretch, st}
-use Rattle.stretches.proofs.Lists.{le-or-lt}
+use Rattle.basics.proofs.Basics.{le-or-lt}
 use Rattle.stretches.specs.Front.{None, At, nth}
 use Rattle.meaning.specs.Lent.{listsOf}
 use Rattle.meaning.specs.Refusals.{miscutFrom, miscut}

@@ -17,7 +17,7 @@ use Rattle.pattern.specs.declared.Step.{Step}
 use Rattle.pattern.specs.declared.Step.the-variants.{Dead, Within, Closed}
 use Rattle.pattern.specs.Automaton.{fieldCount, low, high, arity, firstField, secondField, child, wordAt, digit, number, shut, numberEnd, step, Scan, Stop, Whole, later, after, last, finish, go, scan}
 use Rattle.pattern.specs.Rows.{symbol}
-use Rattle.pattern.proofs.Basics.{true-and, le-or-lt}
+use Rattle.basics.proofs.Basics.{true-and, le-or-lt}
 use Rattle.pattern.proofs.Numbers.{digits-small, digits-large, Starts, starts-live}
 use Rattle.pattern.proofs.Fields.{rank-arity}
 use Rattle.pattern.proofs.Words.{Kind}

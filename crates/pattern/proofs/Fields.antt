@@ -12,7 +12,7 @@ use Rattle.pattern.specs.Decimal.{decimal}
 use Rattle.pattern.specs.Pattern.{Symbol, Ev, Fr, Or, And, Row, Then, Less, Max, listed, spellSymbol, Ranged, InRange, rank}
 use Rattle.pattern.specs.Automaton.{fieldCount, low, high, arity, firstField, secondField, kinds, among}
 use Rattle.pattern.specs.Rows.{kindOf, firstOf, secondOf, symbol}
-use Rattle.pattern.proofs.Basics.{cases, or-true}
+use Rattle.basics.proofs.Basics.{cases, or-true}
 use Rattle.pattern.proofs.Words.{wordOf, Kind}
 
 -- P holds of each

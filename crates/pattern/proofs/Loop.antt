@@ -18,7 +18,7 @@ use Rattle.pattern.specs.declared.Step.{Step}
 use Rattle.pattern.specs.declared.Step.the-variants.{Dead, Within, Closed}
 use Rattle.pattern.specs.Automaton.{fieldCount, low, arity, firstField, secondField, step, Bounded, final, endOf, Scan, Stop, Whole, later, after, last, finish, go, scan, putAt, Columns, Tells}
 use Rattle.pattern.specs.Rows.{kindOf, firstOf, secondOf, padded, symbol}
-use Rattle.pattern.proofs.Basics.{cases}
+use Rattle.basics.proofs.Basics.{cases}
 use Rattle.pattern.proofs.Fields.{Named, named-last, field-small, earlier-small, rank-small}
 use Rattle.pattern.proofs.Scanning.{Held, need, After, Went, Shut, step-after}
 

@@ -16,7 +16,7 @@ use Rattle.pattern.specs.declared.Step.{Step}
 use Rattle.pattern.specs.declared.Step.the-variants.{Dead, Within, Closed}
 use Rattle.pattern.specs.Automaton.{fieldCount, low, arity, firstField, secondField, step, Scan, Stop, Whole, later, after, last, finish, go, scan}
 use Rattle.pattern.specs.Rows.{symbol}
-use Rattle.pattern.proofs.Basics.{cases}
+use Rattle.basics.proofs.Basics.{cases}
 use Rattle.pattern.proofs.Fields.{rank-arity, lead, spelt-last, ranged-last}
 use Rattle.pattern.proofs.Scanning.{afters, joined, Counts, AllRanged, need, pending, InField, Held, Went, Shut, After, step-after, Completes, completes}
 

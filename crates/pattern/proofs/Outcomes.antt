@@ -17,7 +17,7 @@ use Rattle.pattern.specs.declared.Verdict.the-variants.{Accepted, Long, 
 use Rattle.pattern.specs.Automaton.{Scan, Stop, Whole, scan}
 use Rattle.pattern.specs.Answer.{table, noTable, Says, numberOf, placeOf}
 use Rattle.pattern.specs.Reading.{build, Outcome, Accepts, Refuses, ofTree, ofTrees, ofScan, outcomeOf, verdictOf, tableOf, readingOf, ReadGives}
-use Rattle.pattern.proofs.Basics.{cases}
+use Rattle.basics.proofs.Basics.{cases}
 use Rattle.pattern.proofs.Trees.{Reading, reading, build-back, spell-injective}
 use Rattle.pattern.proofs.Answering.{says-unique}
 

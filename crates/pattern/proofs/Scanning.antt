@@ -15,7 +15,7 @@ use Rattle.pattern.specs.declared.Step.{Step}
 use Rattle.pattern.specs.declared.Step.the-variants.{Dead, Within, Closed}
 use Rattle.pattern.specs.Automaton.{fieldCount, low, high, arity, firstField, secondField, child, wordAt, live, digit, number, shut, wordEnd, numberEnd, letter, step}
 use Rattle.pattern.specs.Rows.{symbol}
-use Rattle.pattern.proofs.Basics.{cases, and-true}
+use Rattle.basics.proofs.Basics.{cases, and-true}
 use Rattle.pattern.proofs.Numbers.{decimal-small, decimal-large, Starts, live-starts, starts-completed}
 use Rattle.pattern.proofs.Words.{path, onward, path-onward, Kind, wayAt, way-kind, child-grown, word-ended}
 use Rattle.pattern.proofs.Fields.{rank-arity, lead, spelt-last, lead-next, Earlier, ranged-last, low-small, bare, earlier-next, Named, named-last, goes, word-goes}

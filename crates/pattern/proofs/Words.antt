@@ -12,7 +12,7 @@ use native.Mathlib.Omega.{arith}
 use Rattle.pattern.specs.Pattern.{word}
 use Rattle.pattern.specs.Automaton.{kinds, among, parents, letters, match, child, wordAt}
 use Rattle.pattern.specs.Rows.{symbol}
-use Rattle.pattern.proofs.Basics.{cases, and-true, true-and, or-true}
+use Rattle.basics.proofs.Basics.{cases, and-true, true-and, or-true}
 
 -- what a table's rule says, tested at each place below n
 abbrev pub all : (ℕ → Bool) → ℕ → Bool

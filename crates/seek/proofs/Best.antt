@@ -10,7 +10,8 @@ use borrow.Author.Tests.{ltb-true, ltb-false}
 use Rattle.stretches.specs.Stretch.{Stretch, Or, answers}
 use Rattle.stretches.specs.Front as fronts
 use Rattle.stretches.specs.Front.{None, At, firstFrom}
-use Rattle.stretches.proofs.Lists.{cases, st-path}
+use Rattle.stretches.proofs.Lists.{st-path}
+use Rattle.basics.proofs.Basics.{cases}
 use Rattle.stretches.proofs.Answers.{AllRising}
 use Rattle.stretches.proofs.Fronts.{better, bestFront, or-front}
 use Rattle.stretches.proofs.Orders.{ends-true, ends-false}

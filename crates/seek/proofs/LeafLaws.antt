@@ -11,7 +11,7 @@ use lib.Seq.{getD-set-same, getD-set-other}
 use borrow.Author.Tests.{eq-eqb, ne-eqb}
 use Rattle.stretches.specs.Stretch.{Stretch, Rising, marks}
 use Rattle.stretches.specs.Front.{firstFrom}
-use Rattle.stretches.proofs.Lists.{eq-or-ne}
+use Rattle.basics.proofs.Basics.{eq-or-ne}
 use Rattle.event_log.specs.Lines.{Cursor}
 use Rattle.event_log.specs.Reading.{says}
 use Rattle.event_log.proofs.LinesLaws.{cursor-start}

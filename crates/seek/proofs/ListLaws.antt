@@ -11,7 +11,7 @@ use lib.Seq.{getD-set-other}
 use borrow.Author.Tests.{le-leb, lt-leb}
 use Rattle.stretches.specs.Stretch.{Stretch, st, In, Rising}
 use Rattle.stretches.specs.Front.{At, firstFrom}
-use Rattle.pattern.proofs.Basics.{getD-past}
+use Rattle.basics.proofs.Basics.{getD-past}
 use Rattle.meaning.specs.Lent.{part, startOf}
 use Rattle.meaning.proofs.Lent.{part-cons, part-nil}
 use Rattle.seek.specs.declared.Front.{Front}

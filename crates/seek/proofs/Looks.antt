@@ -7,7 +7,7 @@ use native.Mathlib.Omega.{arith}
 use lib.Dec.{leb, ltb, eqb}
 use borrow.Author.Tests.{ltb-true, ltb-false, leb-true, leb-false, eqb-true, eqb-false, lt-ltb, le-ltb, le-leb, lt-leb, eq-eqb}
 use Rattle.stretches.specs.Stretch.{Stretch, st, In, Rising, low, high, keep, holdsNone, atMost, lengthOf, Op, And, Row, Then, answers}
-use Rattle.stretches.proofs.Lists.{cases}
+use Rattle.basics.proofs.Basics.{cases}
 use Rattle.stretches.proofs.Answers.{AllRising, AllSound, Sound, high-first}
 use Rattle.stretches.specs.Front as fronts
 use Rattle.stretches.specs.Front.{None, At, firstFrom}

@@ -8,7 +8,7 @@ use Prim.Native.Nat.{ℕ, zero, suc, _+_, _≤_, _<_}
 use native.Mathlib.Omega.{arith}
 use lib.ListN.{length, getD, length-map}
 use Rattle.stretches.specs.Stretch.{Stretch, Op, answers, lengthOf}
-use Rattle.stretches.proofs.Lists.{le-or-lt}
+use Rattle.basics.proofs.Basics.{le-or-lt}
 use Rattle.event_log.specs.Lines.{lines}
 use Rattle.event_log.specs.Line.{meaning}
 use Rattle.event_log.specs.Reading.{says}

@@ -9,7 +9,7 @@ use lib.ListN.{length, getD, set, length-set}
 use lib.Seq.{getD-set-same, getD-set-other}
 use Rattle.stretches.specs.Stretch.{Stretch}
 use Rattle.stretches.specs.Front.{firstFrom}
-use Rattle.stretches.proofs.Lists.{eq-or-ne}
+use Rattle.basics.proofs.Basics.{eq-or-ne}
 use Rattle.event_log.specs.Lines.{Cursor}
 use Rattle.pattern.specs.Pattern.{Symbol, Ev, Fr, Or, And, Row, Then, Less, Max, Pattern, Patterns, Node}
 use Rattle.pattern.specs.Rows.{kindOf, kindAt, Tree}

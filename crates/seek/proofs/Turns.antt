@@ -6,7 +6,7 @@ use mathlib.Core.List.{List}
 use Prim.Native.Nat.{ℕ, _+_, _≤_, _<_}
 use native.Mathlib.Omega.{arith}
 use borrow.Author.Tests.{eq-eqb, ne-eqb}
-use Rattle.stretches.proofs.Lists.{eq-or-ne}
+use Rattle.basics.proofs.Basics.{eq-or-ne}
 use Rattle.pattern.specs.Pattern.{Pattern, Patterns, Nil, Cons}
 use Rattle.pattern.specs.Rows.{kindAt, firstAt}
 use Rattle.meaning.specs.Meaning.{evals}

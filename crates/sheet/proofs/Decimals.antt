@@ -9,7 +9,7 @@ use lib.Seq.{sets}
 use native.Mathlib.Omega.{arith}
 use native.Mathlib.Nat.{pow-suc}
 use Rattle.pattern.specs.Decimal.{decimal}
-use Rattle.pattern.proofs.Basics.{le-or-lt}
+use Rattle.basics.proofs.Basics.{le-or-lt}
 use Rattle.pattern.proofs.Numbers.{decimal-large, decimal-small}
 use Rattle.sheet.proofs.Placing.{sets-last}
 

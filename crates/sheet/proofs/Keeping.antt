@@ -10,7 +10,7 @@ use lib.Seq.{sets, length-sets, set-out, drop-cons, take-all, take-append-le, ta
 use lib.Dec.{eqb}
 use borrow.Author.Tests.{eq-eqb, ne-eqb}
 use native.Mathlib.Omega.{arith}
-use Rattle.pattern.proofs.Basics.{cases, le-or-lt}
+use Rattle.basics.proofs.Basics.{cases, le-or-lt}
 use Rattle.sheet.specs.declared.input.Taken.{Taken}
 use Rattle.sheet.specs.declared.input.Parting.{Parting}
 use Rattle.sheet.specs.Input.{patternOf, logOf, feedIn, patternPart, logPart, Parts, Kept, TakenIn, Holds, Keeps}

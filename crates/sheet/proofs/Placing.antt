@@ -10,7 +10,7 @@ use lib.Seq.{sets, sets-eq, set-comm, take-at}
 use lib.Dec.{leb}
 use borrow.Author.Tests.{le-leb, lt-leb, leb-true, leb-false}
 use native.Mathlib.Omega.{arith}
-use Rattle.pattern.proofs.Basics.{cases}
+use Rattle.basics.proofs.Basics.{cases}
 use Rattle.sheet.specs.Sheet.{laid, laidLength, Lays}
 
 -- what is stored behind a first part

@@ -15,7 +15,7 @@ use Rattle.stretches.proofs.Answers.{Sound}
 use Rattle.stretches.proofs.Cut.{Below}
 use Rattle.event_log.specs.Reading.{says, counted}
 use Rattle.event_log.proofs.CountLaws.{counted-few}
-use Rattle.pattern.proofs.Basics.{le-or-lt}
+use Rattle.basics.proofs.Basics.{le-or-lt}
 use Rattle.pattern.proofs.Outcomes.{refuses-long}
 use Rattle.meaning.specs.declared.Filled.{Filled}
 use Rattle.meaning.specs.Refusals.{Refusal, refused, refusal}

@@ -8,7 +8,8 @@ use mathlib.Core.List.{List, [], _∷_}
 use borrow.Author.Tests.{ltb-true, eqb-true}
 use native.Mathlib.Omega.{arith}
 use Rattle.stretches.specs.Stretch.{Stretch, st, In, Rising, tuples, low, high, spans, linked, anyhow, adjoins, follows, together, keepFirst, containsNone, atMost, Op, Or, And, Row, Then, Less, Max, answers}
-use Rattle.stretches.proofs.Lists.{and-true, keep-in, in-keep, rising-keep, in-arrange, arrange-in, rising-arrange, rising-apart, in-minimal, minimal-in, rising-minimal}
+use Rattle.stretches.proofs.Lists.{keep-in, in-keep, rising-keep, in-arrange, arrange-in, rising-arrange, rising-apart, in-minimal, minimal-in, rising-minimal}
+use Rattle.basics.proofs.Basics.{and-true}
 use Rattle.stretches.proofs.Tuples.{InAny, Picks, Span, in-together, together-in, in-spans, spans-in}
 
 abbrev pub AllRising : List (List Stretch) → Type 0

@@ -10,7 +10,8 @@ use borrow.Author.Tests.{ltb-true, leb-true, lt-ltb, le-leb}
 use native.Mathlib.Omega.{arith}
 use Rattle.stretches.specs.Stretch.{Stretch, In, Rising, keep, high, linked, anyhow, adjoins, follows, Op, Or, And, Row, Then, Less, Max, containsNone, atMost, answers}
 use Rattle.stretches.specs.Run.{within, down, cut}
-use Rattle.stretches.proofs.Lists.{and-true, true-and, ext-rising, in-keep, keep-in, rising-keep}
+use Rattle.stretches.proofs.Lists.{ext-rising, in-keep, keep-in, rising-keep}
+use Rattle.basics.proofs.Basics.{and-true, true-and}
 use Rattle.stretches.proofs.Tuples.{InAny, Picks, Span}
 use Rattle.stretches.proofs.Answers.{Sound, Kept, Cand, answer-cand}
 use Rattle.stretches.proofs.Window.{Window}

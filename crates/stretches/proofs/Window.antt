@@ -10,7 +10,8 @@ use borrow.Author.Tests.{ltb-true, eqb-true, lt-ltb, eq-eqb}
 use native.Mathlib.Omega.{arith}
 use Rattle.stretches.specs.Stretch.{Stretch, st, In, low, high, linked, anyhow, adjoins, follows, Op, Or, And, Row, Then, Less, Max, containsNone, atMost, answers}
 use Rattle.stretches.specs.Run.{down}
-use Rattle.stretches.proofs.Lists.{cases, and-true, true-and, NoneIn, none-in, none-in-test}
+use Rattle.stretches.proofs.Lists.{NoneIn, none-in, none-in-test}
+use Rattle.basics.proofs.Basics.{cases, and-true, true-and}
 use Rattle.stretches.proofs.Tuples.{InAny, Picks, Span, in-cast}
 use Rattle.stretches.proofs.Answers.{AllRising, AllSound, Sound, Kept, Cand, Least, answer-cand, answer-least, least-answer, cand-sound}
 use Rattle.stretches.proofs.Fronts.{From, To, low-from, high-to}

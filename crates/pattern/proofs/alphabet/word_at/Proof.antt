@@ -2,7 +2,7 @@
 -- Assumes nothing.
 use mathlib.Core.Path.{refl, sym}
 use Rattle.pattern.specs.Automaton.{wordAt, ends}
-use Rattle.pattern.proofs.Basics.{getD-past}
+use Rattle.basics.proofs.Basics.{getD-past}
 use borrow.Author.Needs.{needs}
 use Rattle.pattern.proofs.alphabet.word_at.Statement.{statement}
 use Rattle.pattern.proofs.alphabet.word_at.Tie as tie
