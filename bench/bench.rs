@@ -1,5 +1,5 @@
-//! Times the finder's filling call beside the plain Rust evaluator of the tests: same machine, same inputs, both built for release, calls
-//! in turn. It measures and passes no judgement; only a difference between the two results stops it.
+//! Times the finder's filling call beside the plain Rust evaluator of the tests, and the steps beside the filling call: same machine, same inputs, all
+//! built for release, calls in turn. It measures and passes no judgement; only a difference between the two results stops it.
 
 #[path = "../tests/outside/calls.rs"]
 mod calls;
@@ -11,6 +11,7 @@ mod quick;
 mod reference;
 
 use calls::Calls;
+use inputs::Rng;
 use std::hint::black_box;
 use std::time::{Duration, Instant};
 
@@ -45,27 +46,86 @@ fn print_row(name: &str, bytes: usize, found: usize, (finder, plain): (Duration,
     );
 }
 
-/// One row: a pattern in a log, with cells for `pairs` answers.
-fn row(name: &str, pattern: &str, log: &[u8], pairs: usize) {
+/// One row: a pattern in each of the logs in turn, with cells for `pairs` answers.
+fn over_logs(name: &str, pattern: &str, logs: &[Vec<u8>], pairs: usize) {
     let (pattern, mut of_finder, mut of_plain) = (pattern.as_bytes(), vec![0; 2 * pairs], vec![0; 2 * pairs]);
-    let given = calls::Archive.fill(pattern, log, &mut of_finder, 0);
-    let due = reference::fill(&quick::answers(pattern, log), &mut of_plain, 0);
-    assert!(given == due && of_finder == of_plain, "{name}: the results differ: {given:#x} and {due:#x}");
-    let found = (given >> 32) as usize;
+    let mut found = 0;
+    for log in logs {
+        let given = calls::Archive.fill(pattern, log, &mut of_finder, 0);
+        let due = reference::fill(&quick::answers(pattern, log), &mut of_plain, 0);
+        assert!(given == due && of_finder == of_plain, "{name}: the results differ: {given:#x} and {due:#x}");
+        found += (given >> 32) as usize;
+    }
+    let (mut a, mut b) = (0, 0);
     let times = side_by_side(
         || {
-            black_box(calls::Archive.fill(black_box(pattern), black_box(log), &mut of_finder, 0));
+            a = (a + 1) % logs.len();
+            black_box(calls::Archive.fill(black_box(pattern), black_box(&logs[a]), &mut of_finder, 0));
         },
         || {
-            black_box(reference::fill(&quick::answers(black_box(pattern), black_box(log)), &mut of_plain, 0));
+            b = (b + 1) % logs.len();
+            black_box(reference::fill(&quick::answers(black_box(pattern), black_box(&logs[b])), &mut of_plain, 0));
         },
     );
-    print_row(name, log.len(), found, times);
+    let bytes: usize = logs.iter().map(Vec::len).sum();
+    print_row(name, bytes / logs.len(), found / logs.len(), times);
+}
+
+fn row(name: &str, pattern: &str, log: &[u8], pairs: usize) {
+    over_logs(name, pattern, &[log.to_vec()], pairs);
+}
+
+/// One row: the answers of a pattern in a log taken one by one beside the filling of all of them.
+fn step_row(name: &str, pattern: &str, log: &[u8], pairs: usize) {
+    let (pattern, mut taken, mut filled) = (pattern.as_bytes(), vec![0; 2 * pairs], vec![0; 2 * pairs]);
+    let found = calls::Archive.steps(pattern, log, &mut taken);
+    let due = calls::Archive.fill(pattern, log, &mut filled, 0) >> 32;
+    assert!(found == due && taken == filled, "{name}: the results differ: {found} and {due}");
+    let (steps, fill) = side_by_side(
+        || {
+            black_box(calls::Archive.steps(black_box(pattern), black_box(log), &mut taken));
+        },
+        || {
+            black_box(calls::Archive.fill(black_box(pattern), black_box(log), &mut filled, 0));
+        },
+    );
+    let micro = |t: Duration| t.as_nanos() as f64 / 1e3;
+    let each = |t: Duration| micro(t) / found.max(1) as f64;
+    println!(
+        "{name:<36} {:>6} {found:>6} {:>10.1} {:>10.1} {:>7.2} {:>9.2} {:>9.2}",
+        log.len(),
+        micro(steps),
+        micro(fill),
+        micro(steps) / micro(fill),
+        each(steps),
+        each(fill)
+    );
 }
 
 fn leaves(operator: &str) -> String {
     let leaf = |i: usize| format!(",ev,{},{}", [2, 3, 7, 9, 12][i % 5], i % 13);
     (0..31).fold(format!("{operator},31"), |text, i| text + &leaf(i))
+}
+
+/// Leaves of which every line of a dense log matches a third.
+fn dense_leaves(operator: &str) -> String {
+    let leaf = |i: usize| format!(",{},{},{}", ["ev", "fr"][i % 2], 1 + i / 2 % 2, i / 4 % 3);
+    (0..31).fold(format!("{operator},31"), |text, i| text + &leaf(i))
+}
+
+/// A log of two lanes, two codes and two frames.
+fn dense_log(rng: &mut Rng) -> Vec<u8> {
+    let mut of_two = || rng.range(1, 2);
+    (0..3_000).flat_map(|_| format!("1,{},{},{},{}\n", of_two(), of_two(), of_two(), of_two()).into_bytes()).collect()
+}
+
+/// The lines of a log in another order.
+fn shuffled(rng: &mut Rng, log: &[u8]) -> Vec<u8> {
+    let mut lines: Vec<&[u8]> = log.split_inclusive(|&b| b == b'\n').collect();
+    for i in (1..lines.len()).rev() {
+        lines.swap(i, rng.below(i + 1));
+    }
+    lines.concat()
 }
 
 fn main() {
@@ -84,9 +144,34 @@ fn main() {
     row("3,000 lines, and of 31 leaves", &leaves("and"), &evening, 3_000);
     row("3,000 lines, then of 31 leaves", &leaves("then"), &evening, 3_000);
     row("3,000 lines, six, first answer only", SIX, &evening, 1);
+    let fifteen = (0..15).fold("or,15".to_string(), |text, i| text + &format!(",max,9,ev,{},{}", [2, 3, 7, 9, 12][i % 5], i % 13));
+    row("3,000 lines, or of 15 max", &fifteen, &evening, 3_000);
+    let ten =
+        (0..10).fold("and,10".to_string(), |text, i| text + &format!(",or,2,ev,{},0,ev,{},0", [2, 3, 7][i % 3], [9, 12, 15, 20][i % 4]));
+    row("3,000 lines, and of 10 or", &ten, &evening, 3_000);
+    let mut rng = Rng(40);
+    let evenings: Vec<_> = (0..40).map(|_| shuffled(&mut rng, &evening)).collect();
+    over_logs("40 logs in turn, six operators", SIX, &evenings, 3_000);
+    over_logs("40 logs in turn, or of 31 leaves", &leaves("or"), &evenings, 3_000);
+    let dense: Vec<_> = (0..40).map(|_| dense_log(&mut rng)).collect();
+    for operator in ["or", "and", "then", "row"] {
+        row(&format!("dense, {operator} of 31 leaves"), &dense_leaves(operator), &dense[0], 3_000);
+    }
+    over_logs("40 dense logs in turn, and of 31", &dense_leaves("and"), &dense, 3_000);
     row("full log, six operators", SIX, &full, 6_000);
     row("full log of line feeds", SIX, &vec![b'\n'; reference::LOG_MAX], 1);
     for part in [32, 16, 8, 4, 2, 1] {
         row(&format!("six operators, 1/{part} of a full log"), SIX, &full[..reference::LOG_MAX / part], 6_000);
     }
+    println!();
+    println!("The same answers one by one, the last step saying none, beside the filling.");
+    println!(
+        "{:<36} {:>6} {:>6} {:>10} {:>10} {:>7} {:>9} {:>9}",
+        "", "bytes", "found", "steps us", "fill us", "ratio", "us/answer", "us/answer"
+    );
+    step_row("3,000 lines, six operators", SIX, &evening, 3_000);
+    step_row("3,000 lines, one leaf, most match", "ev,2,0", &evening, 3_000);
+    step_row("3,000 lines, or of 31 leaves", &leaves("or"), &evening, 3_000);
+    step_row("dense, and of 31 leaves", &dense_leaves("and"), &dense[0], 3_000);
+    step_row("full log, six operators", SIX, &full, 6_000);
 }

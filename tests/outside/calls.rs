@@ -1,13 +1,15 @@
-//! The three calls: the archive's through their C symbols, and behind one trait, so that any other maker of them can be compared too.
+//! The calls: the archives' through their C symbols, and behind one trait, so that any other maker of them can be compared too.
 #![allow(dead_code)]
 
 pub trait Calls {
     fn fill(&self, pattern: &[u8], log: &[u8], cells: &mut [u32], from: u64) -> u64;
     fn lists_fill(&self, op: u32, k: u32, items: &[u32], ends: &[u32], cells: &mut [u32], from: u64) -> u64;
     fn lists_take(&self, op: u32, items: &[u32], ends: &[u32], counts: &mut [u32], number: u64) -> u64;
+    /// The stretches taken one by one into the cells; gives how many.
+    fn steps(&self, pattern: &[u8], log: &[u8], cells: &mut [u32]) -> u64;
 }
 
-/// The calls of the archive.
+/// The calls of the archives.
 pub struct Archive;
 
 #[link(name = "finder_c", kind = "static")]
@@ -44,6 +46,11 @@ extern "C" {
     ) -> u64;
 }
 
+#[link(name = "finder_steps", kind = "static")]
+extern "C" {
+    fn finder_steps(pattern: *const u8, pattern_len: usize, log: *const u8, log_len: usize, cells: *mut u32, cell_count: usize) -> u64;
+}
+
 // Each pointer comes from a slice of the length given with it, and what is written comes from a `&mut`.
 impl Calls for Archive {
     fn fill(&self, pattern: &[u8], log: &[u8], cells: &mut [u32], from: u64) -> u64 {
@@ -56,5 +63,9 @@ impl Calls for Archive {
 
     fn lists_take(&self, op: u32, items: &[u32], ends: &[u32], counts: &mut [u32], number: u64) -> u64 {
         unsafe { finder_lists_take(op, items.as_ptr(), items.len(), ends.as_ptr(), ends.len(), counts.as_mut_ptr(), counts.len(), number) }
+    }
+
+    fn steps(&self, pattern: &[u8], log: &[u8], cells: &mut [u32]) -> u64 {
+        unsafe { finder_steps(pattern.as_ptr(), pattern.len(), log.as_ptr(), log.len(), cells.as_mut_ptr(), cells.len()) }
     }
 }

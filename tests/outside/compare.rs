@@ -47,6 +47,13 @@ pub fn fill(
     same(rng, cells, call, |lent| reference::fill(answers, lent, from)).map_err(report)
 }
 
+/// The stretches of a pattern in a log taken one by one.
+pub fn steps(calls: &dyn Calls, rng: &mut Rng, pattern: &[u8], log: &[u8], answers: &Result<List, Refusal>, cells: usize) -> Checked {
+    let call = |lent: &mut [u32]| calls.steps(pattern, log, lent);
+    let report = |what| format!("one by one: {what}\n  pattern {}\n  log {}\n  cells {cells}", show(pattern), show(log));
+    same(rng, cells, call, |lent| reference::steps(answers, lent)).map_err(report)
+}
+
 /// Lists as they are lent to a call, with operator and k.
 pub struct Lists<'a> {
     pub op: u32,
@@ -113,6 +120,13 @@ impl<'a> Search<'a> {
     pub fn fill(&self, rng: &mut Rng, cells: usize, from: u64) -> Checked {
         let differs = |log: &[u8]| fill(self.calls, &mut Rng(0), self.pattern, log, &(self.by)(self.pattern, log), cells, from);
         let compared = fill(self.calls, rng, self.pattern, self.log, &self.answers, cells, from);
+        compared.map_err(|report| shorten(self.log, differs).err().unwrap_or(report))
+    }
+
+    /// Compares the taking one by one.
+    pub fn steps(&self, rng: &mut Rng, cells: usize) -> Checked {
+        let differs = |log: &[u8]| steps(self.calls, &mut Rng(0), self.pattern, log, &(self.by)(self.pattern, log), cells);
+        let compared = steps(self.calls, rng, self.pattern, self.log, &self.answers, cells);
         compared.map_err(|report| shorten(self.log, differs).err().unwrap_or(report))
     }
 }

@@ -98,6 +98,7 @@ pub fn variants() -> Vec<(&'static str, Plain)> {
     let mut all = over_meaning();
     all.extend(over_reading());
     all.extend(over_handing_back());
+    all.extend(over_steps());
     all
 }
 
@@ -374,6 +375,46 @@ fn over_handing_back() -> Vec<(&'static str, Plain)> {
                 },
                 ..RIGHT
             },
+        ),
+    ]
+}
+
+/// Wrong taking one by one, 64 stretches being found at a time.
+fn over_steps() -> Vec<(&'static str, Plain)> {
+    /// Steps over another list than the answers.
+    fn over(answers: &Result<List, Refusal>, cells: &mut [u32], other: impl Fn(&[List]) -> List) -> u64 {
+        r::steps(&answers.clone().map(|list| other(&list.chunks(64).map(<[Stretch]>::to_vec).collect::<Vec<_>>())), cells)
+    }
+    let steps = |steps| Plain { steps, ..RIGHT };
+    vec![
+        ("the last found stretch found again", {
+            steps(|answers, cells| {
+                over(answers, cells, |parts| {
+                    let mut list = List::new();
+                    for part in parts {
+                        list.extend(list.last().copied());
+                        list.extend(part);
+                    }
+                    list
+                })
+            })
+        }),
+        ("a stretch lost between the found ones", {
+            steps(|answers, cells| {
+                over(answers, cells, |parts| parts.iter().enumerate().flat_map(|(i, part)| &part[usize::from(i > 0)..]).copied().collect())
+            })
+        }),
+        ("none after the first 64", steps(|answers, cells| over(answers, cells, |parts| parts.first().cloned().unwrap_or_default()))),
+        (
+            "the found ones given again",
+            steps(|answers, cells| over(answers, cells, |parts| parts.iter().flat_map(|_| &parts[0]).copied().collect())),
+        ),
+        (
+            "a refused pattern steps",
+            steps(|answers, cells| match answers {
+                Err(_) => r::steps(&Ok(vec![Stretch { s: 0, e: 0 }]), cells),
+                Ok(_) => r::steps(answers, cells),
+            }),
         ),
     ]
 }

@@ -1,4 +1,4 @@
-//! Compares every call of the archive with an independent reference on seeded inputs, a line for each group; a difference is reported
+//! Compares every call of the archives with an independent reference on seeded inputs, a line for each group; a difference is reported
 //! with its input and makes the run fail. `--selftest` shows that wrong variants of the calls are caught by the same comparisons.
 
 mod calls;
@@ -32,13 +32,14 @@ pub type Outcome = Result<usize, String>;
 type Group = (&'static str, fn(&Trial) -> Outcome);
 
 /// Groups that try the calls on seeded inputs.
-const SEEDED: [Group; 9] = [
+const SEEDED: [Group; 10] = [
     ("patterns", over_logs::patterns),
     ("lines", over_logs::lines),
     ("logs", over_logs::logs),
     ("long logs", over_logs::long),
     ("bounds", over_logs::bounds),
     ("runs", over_logs::runs),
+    ("steps", over_logs::steps),
     ("lists", over_lists::lists),
     ("spoiled lists", over_lists::spoiled),
     ("taking", over_lists::taking),

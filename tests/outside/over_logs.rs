@@ -186,6 +186,37 @@ pub fn runs(t: &Trial) -> Outcome {
     Ok(t.rounds(6_000) * 2)
 }
 
+/// The stretches taken one by one: few, and many more than a finder holds at a time; and of refused patterns and logs.
+pub fn steps(t: &Trial) -> Outcome {
+    let mut rng = Rng(8);
+    let mut count = 0;
+    let mut check = |rng: &mut Rng, pattern: &[u8], log: &[u8]| -> Checked {
+        let search = Search::new(t.calls, pattern, log, quick::answers);
+        let n = search.found();
+        for cells in [0, 1, 2, 2 * n, 2 * n + 1, 2 * n + 4, rng.below(2 * n + 1)] {
+            search.steps(rng, cells)?;
+            count += 1;
+        }
+        Ok(())
+    };
+    for _ in 0..t.rounds(4_000) {
+        let lines = if rng.once_in(4) { rng.below(400) } else { rng.below(16) };
+        let damage = rng.pick(&[0, 3, 20]);
+        let log = inputs::log(&mut rng, lines, damage);
+        let pattern = if rng.once_in(3) { SOUND.to_string() } else { inputs::tree(&mut rng, 8, 4).spell() };
+        check(&mut rng, pattern.as_bytes(), &log)?;
+    }
+    for lines in [63, 64, 65, 127, 128, 129, 191, 192, 193, 6_144] {
+        check(&mut rng, SOUND.as_bytes(), &b"1,4,1,3,6\n".repeat(lines))?;
+        check(&mut rng, b"row,2,ev,1,0,ev,1,4", &b"1,4,1,3,6\n".repeat(lines))?;
+    }
+    for (pattern, length) in [("ev,256,0", 10), ("", 0), ("ev,1,0", LOG_MAX + 1), ("ev,1,0", LOG_MAX), ("or,1,ev,1,0", LOG_MAX + 1)] {
+        let log: Vec<u8> = b"1,4,1,3,6\n".iter().copied().cycle().take(length).collect();
+        check(&mut rng, pattern.as_bytes(), &log)?;
+    }
+    Ok(count)
+}
+
 /// The sample log with each sample pattern.
 pub fn samples(t: &Trial) -> Outcome {
     let log = std::fs::read("samples/evening.log").map_err(|e| e.to_string())?;
@@ -197,7 +228,8 @@ pub fn samples(t: &Trial) -> Outcome {
             return Err(format!("the sample pattern {pattern} finds nothing"));
         }
         search.fill(&mut Rng(7), 2 * search.found() + 1, 0)?;
-        count += 1;
+        search.steps(&mut Rng(7), 2 * search.found() + 1)?;
+        count += 2;
     }
     Ok(count)
 }

@@ -15,6 +15,7 @@ pub struct Plain {
     pub take_or: fn(&[List], u64) -> Taken,
     pub take_and: fn(&[List], u64) -> Taken,
     pub fill: fn(&Result<List, Refusal>, &mut [u32], u64) -> u64,
+    pub steps: fn(&Result<List, Refusal>, &mut [u32]) -> u64,
     pub take: fn(&Result<Taken, Refusal>, &mut [u32]) -> u64,
 }
 
@@ -28,13 +29,23 @@ pub const RIGHT: Plain = Plain {
     take_or: lent::take_or_by_algorithm,
     take_and: lent::take_and,
     fill: r::fill,
+    steps: r::steps,
     take: lent::take,
 };
 
+impl Plain {
+    fn answers(&self, pattern: &[u8], log: &[u8]) -> Result<List, Refusal> {
+        (self.accept)(self, pattern, log).map(|tree| r::evaluate(&tree, &(self.log)(log), self.apply))
+    }
+}
+
 impl Calls for Plain {
     fn fill(&self, pattern: &[u8], log: &[u8], cells: &mut [u32], from: u64) -> u64 {
-        let answers = (self.accept)(self, pattern, log).map(|tree| r::evaluate(&tree, &(self.log)(log), self.apply));
-        (self.fill)(&answers, cells, from)
+        (self.fill)(&self.answers(pattern, log), cells, from)
+    }
+
+    fn steps(&self, pattern: &[u8], log: &[u8], cells: &mut [u32]) -> u64 {
+        (self.steps)(&self.answers(pattern, log), cells)
     }
 
     fn lists_fill(&self, op: u32, k: u32, items: &[u32], ends: &[u32], cells: &mut [u32], from: u64) -> u64 {

@@ -1,188 +1,255 @@
--- What each return of the finder's functions shows: the refusals by their causes, the opening's finder, a step's answer, and a filling.
--- Assumes nothing.
-use Prim.Native.Nat.{ℕ, zero, suc, _+_, _*_, _≤_, _<_}
+-- What each return of the finder's functions shows. Assumes nothing.
+use Prim.Native.Nat.{ℕ, zero, suc, _+_, _-_, _*_, _≤_, _<_}
 use mathlib.Core.Path.{_≡_, refl, sym, ap, ap₂, subst, _∙_}
-use mathlib.Core.Bool.{Bool, true, false, not}
-use mathlib.Core.List.{List, [], _++_}
-use lib.ListN.{length, take, drop, replicate}
-use lib.Seq.{drop-nil}
-use lib.Dec.{ltb, eqb}
-use borrow.Author.Tests.{eqb-true, eqb-false, eq-eqb, ne-eqb, le-ltb}
+use mathlib.Core.Logic.{inl, inr}
+use mathlib.Core.Bool.{Bool, true, false, not, cond, _||_}
+use mathlib.Core.List.{List, [], _∷_, _++_, map}
+use lib.ListN.{length, getD, take, drop, replicate, length-map, length-take}
+use lib.Dec.{ltb}
+use borrow.Author.Tests.{lt-ltb, le-ltb, ltb-true, ltb-false, not-true, not-false}
 use native.Mathlib.Omega.{arith}
-use Rattle.stretches.specs.Stretch.{Stretch}
-use Rattle.stretches.specs.Front as front
-use Rattle.pattern.specs.Rows.{Tree}
+use Rattle.basics.proofs.Basics.{cases, and-true}
+use Rattle.stretches.specs.Stretch.{Stretch, Fine, In}
+use Rattle.stretches.specs.Front.{onward}
+use Rattle.stretches.specs.Filling.{flat, pairsIn, written, filled}
+use Rattle.stretches.specs.Table.{kindAt, firstAt, secondAt}
+use Rattle.stretches.proofs.Fine.{fine-none, fine-marks}
+use Rattle.stretches.proofs.Steps.{in-onward, onward-all}
+use Rattle.stretches.proofs.Table.{fine-list}
+use Rattle.event_log.specs.Lines.{lines}
+use Rattle.event_log.specs.Line.{meaning}
+use Rattle.event_log.specs.Reading.{says}
+use Rattle.event_log.proofs.LinesLaws.{cut-few}
 use Rattle.pattern.specs.Answer.{numberOf, placeOf}
 use Rattle.pattern.specs.Reading as pattern
+use Rattle.pattern.specs.Reading.{Outcome, outcomeOf, tableOf, readingOf}
+use Rattle.pattern.specs.Rows.{rowsOf}
 use Rattle.pattern.specs.declared.Reading.{Reading}
-use Rattle.pattern.specs.declared.Table.{Table}
 use Rattle.pattern.specs.declared.Verdict.{Verdict}
 use Rattle.pattern.specs.declared.Verdict.the-variants.{Accepted, Long, Misspelt, Crowded, Deep}
 use Rattle.pattern.proofs.Outcomes.{accepts-spells, verdict-accepts, verdict-refuses}
 use Rattle.pattern.proofs.Rows.{table-tree}
-use Rattle.meaning.specs.Meaning.{eval}
-use Rattle.meaning.specs.Refusals.{Refusal, refused, accepted, refusal}
-use Rattle.meaning.specs.Filling.{flat, pairsIn, written, filled, moreAfter}
-use Rattle.meaning.specs.Finding.{listOf}
-use Rattle.meaning.proofs.Finding.{long-log, bad-pattern, good-pattern, refused-list, accepted-list}
-use Rattle.seek.specs.declared.Front.{Front}
+use Rattle.meaning.specs.Meaning.{hits, overTable, tableIn}
+use Rattle.meaning.specs.Refusals.{Refusal, refused, accepted, longLog, refusal}
+use Rattle.meaning.specs.Finding.{listOf, filling}
+use Rattle.meaning.specs.declared.Filled.{Filled}
+use Rattle.meaning.proofs.Finding.{long-log, bad-pattern, good-pattern, refused-list, accepted-list, accepted-number}
+use Rattle.meaning.proofs.Table.{table-answers}
 use Rattle.seek.specs.declared.Walked.{Walked}
-use Rattle.seek.specs.Source.{source, valuation}
-use Rattle.seek.specs.Moves.{pickN}
-use Rattle.seek.specs.Seek as seeks
-use Rattle.seek.specs.Seek.{Fits}
-use Rattle.seek.specs.Steps as seek
-use Rattle.seek.proofs.Shape.{formed-shaped}
-use Rattle.seek.proofs.Sources.{log-answers, good-log}
-use Rattle.seek.proofs.Walk.{led-start}
+use Rattle.seek.specs.Source.{source, listOf as tableList, Good}
+use Rattle.seek.specs.Steps.{Filling, FillAll}
+use Rattle.marking.specs.Rows.{widthOf}
+use Rattle.marking.specs.Plan.{prepared}
+use Rattle.marking.proofs.Planning.{room-enough, prepared-lists, prepared-good}
 use Rattle.finder.specs.declared.Finder.{Finder}
-use Rattle.finder.specs.declared.Answer.{Answer}
-use Rattle.finder.specs.declared.Answer.the-variants as answer
 use Rattle.finder.specs.declared.Readied.{Readied}
-use Rattle.finder.specs.Promises.{Read, ReadGives, answerOf, Led, closed, seeking, OpenGives, StepGives, FillGives}
+use Rattle.finder.specs.Promises.{rowsIn, readied, listIn, among, waits, handed, none, offered, lineAfter, refilled, stepOver}
 
 -- ── Reading both ──
 
-pub read-long : (text log rows : List ℕ) → 61440 < length log → ReadGives text log (record { number = 1; place = 0; rows = rows })
-read-long text log rows h =
-    let e : refusal text log ≡ refused 1 0 = long-log text log h in
-    record { number = sym (ap (λ (x : Refusal). x .number) e); place = sym (ap (λ (x : Refusal). x .place) e); read = λ z. absurd (omega arith) }
+module _ (text log : List ℕ) where
+  abbrev said : ℕ → ℕ → List ℕ → Readied
+  said n p rows = record { number = n; place = p; rows = rows }
 
-pub read-short : (text log : List ℕ) (r : Reading) (n p : ℕ) → length log ≤ 61440 → pattern.ReadGives text r → n ≡ numberOf (r .verdict) → p ≡ placeOf (r .verdict)
-    → ReadGives text log (record { number = n; place = p; rows = r .table .rows })
-read-short text log r n p h g en ep = go (r .verdict) refl
-  where
-    refusing : 1 ≤ numberOf (r .verdict) → ReadGives text log (record { number = n; place = p; rows = r .table .rows })
-    refusing k =
-        let e : refusal text log ≡ refused (numberOf (r .verdict)) (placeOf (r .verdict)) = bad-pattern text log (numberOf (r .verdict)) (placeOf (r .verdict)) h (verdict-refuses text r g k) in
-        record { number = en ∙ sym (ap (λ (x : Refusal). x .number) e); place = ep ∙ sym (ap (λ (x : Refusal). x .place) e); read = λ z. absurd (omega arith) }
+  pub read-long : 61440 < length log → said 1 0 (replicate 128 0) ≡ readied text log
+  read-long h =
+      let e : refusal text log ≡ refused 1 0 = long-log text log h in
+      λ i. said (sym e i .number) (sym e i .place) (sym (ap (λ b. cond b (replicate 128 0) (tableOf (outcomeOf text) .rows)) (lt-ltb 61440 (length log) h)) i)
 
-    accepting : r .verdict ≡ Accepted → ReadGives text log (record { number = n; place = p; rows = r .table .rows })
-    accepting k =
-        let o = verdict-accepts text r g k in
-        let e : refusal text log ≡ accepted = good-pattern text log (o .pattern) h (o .accepts) in
-        record {
-          number = en ∙ (ap numberOf k ∙ sym (ap (λ (x : Refusal). x .number) e));
-          place = ep ∙ (ap placeOf k ∙ sym (ap (λ (x : Refusal). x .place) e));
-          read = λ z. record { brief = h; tree = o .pattern; reads = o .accepts; table = ap (λ (t : Table). t .rows) (o .tabled) };
-        }
+  pub read-short : (r : Reading) (n p : ℕ) → length log ≤ 61440 → pattern.ReadGives text r → n ≡ numberOf (r .verdict) → p ≡ placeOf (r .verdict) → said n p (r .table .rows) ≡ readied text log
+  unfolding readingOf
+  read-short r n p h g en ep = λ i. said ((en ∙ ap (λ (x : Refusal). x .number) (sym (says (r .verdict) refl))) i) ((ep ∙ ap (λ (x : Refusal). x .place) (sym (says (r .verdict) refl))) i) (rows i)
+    where
+      rows : r .table .rows ≡ rowsIn text log
+      rows = ap (λ (x : Reading). x .table .rows) (g .is) ∙ sym (ap (λ b. cond b (replicate 128 0) (tableOf (outcomeOf text) .rows)) (le-ltb 61440 (length log) h))
 
-    go : (v : Verdict) → r .verdict ≡ v → ReadGives text log (record { number = n; place = p; rows = r .table .rows })
-    go Accepted k = accepting k
-    go Long k = refusing (omega (arith, ap numberOf k))
-    go (Misspelt q) k = refusing (omega (arith, ap numberOf k))
-    go Crowded k = refusing (omega (arith, ap numberOf k))
-    go Deep k = refusing (omega (arith, ap numberOf k))
+      refusing : 1 ≤ numberOf (r .verdict) → refusal text log ≡ refused (numberOf (r .verdict)) (placeOf (r .verdict))
+      refusing k = bad-pattern text log (numberOf (r .verdict)) (placeOf (r .verdict)) h (verdict-refuses text r g k)
 
--- ── The list by the machine's words ──
+      says : (v : Verdict) → r .verdict ≡ v → refusal text log ≡ refused (numberOf (r .verdict)) (placeOf (r .verdict))
+      says Accepted k = let o = verdict-accepts text r g k in good-pattern text log (o .pattern) h (o .accepts) ∙ sym (ap (λ (v : Verdict). refused (numberOf v) (placeOf v)) k)
+      says Long k = refusing (omega (arith, ap numberOf k))
+      says (Misspelt q) k = refusing (omega (arith, ap numberOf k))
+      says Crowded k = refusing (omega (arith, ap numberOf k))
+      says Deep k = refusing (omega (arith, ap numberOf k))
 
-fits-read : (text log rows : List ℕ) (r : Read text log rows) → Fits rows 0 (r .tree) 8
-fits-read text log rows r =
-    let a = accepts-spells text (r .tree) (r .reads) in
-    record {
-      tree = subst (λ (x : List ℕ). Tree x 0 (r .tree)) (sym (r .table)) (table-tree (r .tree) (a .few));
-      shape = formed-shaped (r .tree) (a .spells .formed);
-      room = omega (arith, a .few);
-      low = a .shallow;
-    }
+-- ── The lists ──
 
--- ── Opening ──
+says-few : (log : List ℕ) → length (says log) ≤ length log
+says-few log = omega (arith, length-map (lines log) meaning, cut-few 10 log)
 
-pub open-gives : (text log : List ℕ) (r : Readied) → ReadGives text log r
-    → OpenGives text log (record { number = r .number; place = r .place; finder = record { live = eqb (r .number) 0; rows = r .rows; state = replicate 192 0; from = 0 } })
-open-gives text log r g = record { number = g .number; place = g .place; led = go (eqb (r .number) 0) refl }
-  where
-    go : (b : Bool) → eqb (r .number) 0 ≡ b → Led text log 0 (record { live = b; rows = r .rows; state = replicate 192 0; from = 0 })
-    go true e =
-        let k = g .read (eqb-true (r .number) 0 e) in
-        seeking (k .tree) (accepted-list text log (k .tree) (k .brief) (k .reads)) refl (led-start (r .rows) (source log [] []) (k .tree) (good-log log (k .brief)) (fits-read text log (r .rows) k))
-    go false e =
-        let n : r .number ≡ 0 → ⊥ = eqb-false (r .number) 0 e in
-        closed (refused-list text log (refusal text log) refl (omega (arith, g .number))) refl
+-- every table's list is fine
+pub fine-in : (rows log : List ℕ) → Fine 65536 (listIn rows log)
+unfolding listIn tableIn
+fine-in rows log = cases (longLog log) (λ b. Fine 65536 (cond b [] (tableIn rows log))) (λ e. fine-none 65536)
+    (λ e. fine-list (overTable rows (says log)) rows 65536 (λ v h.
+    let hit = hits (kindAt rows v) (firstAt rows v) (secondAt rows v) in
+    let f = fine-marks (map hit (says log)) in
+    record { rising = f .rising; sound = f .sound; below = λ s x m. omega (arith, f .below s x m, length-map (says log) hit, says-few log, ltb-false 61440 (length log) e) }) 0 (omega arith))
 
--- ── Stepping ──
-
-none-nth : (l : List Stretch) (n : ℕ) → l ≡ [] → answerOf (front.nth l n) ≡ answer.None
-none-nth l n e = ap (λ (x : List Stretch). answerOf (front.nth x n)) e ∙ ap (λ (x : List Stretch). answerOf (front.headOf x)) (drop-nil n)
-
-pub not-true : (b : Bool) → not b ≡ true → b ≡ false
-not-true true e = sym e
-not-true false e = refl
-
-pub not-false : (b : Bool) → not b ≡ false → b ≡ true
-not-false true e = refl
-not-false false e = sym e
-
--- a finder that is not live says only none
-pub step-closed : (log : List ℕ) (f : Finder) → f .live ≡ false → StepGives f log (record { answer = answer.None; finder = f })
-unfolding StepGives
-step-closed log f e pattern n (closed l k) = record { answer = sym (none-nth (listOf pattern log) n l); led = closed l k }
-step-closed log f e pattern n (seeking p l k g) = let z : _≡_ {A = ℕ} 0 1 = cc in absurd (omega arith)
-
--- what the machine found is answer number n
-found-answer : (g : front.Front) (r : Front) → r ≡ seeks.front g → r .status ≡ 1 → answer.Stretch (r .start) (r .end) ≡ answerOf g
-found-answer front.None r e one = absurd (omega (arith, ap (λ (x : Front). x .status) e))
-found-answer (front.At x) r e one = ap₂ answer.Stretch (ap (λ (y : Front). y .start) e) (ap (λ (y : Front). y .end) e)
-
-missed-answer : (g : front.Front) (r : Front) → r ≡ seeks.front g → (r .status ≡ 1 → ⊥) → answer.None ≡ answerOf g
-missed-answer front.None r e no-one = refl
-missed-answer (front.At x) r e no-one = absurd (no-one (ap (λ (y : Front). y .status) e))
-
-module _ (log : List ℕ) (f : Finder) (live : f .live ≡ true) (r : Front) (state : List ℕ) (next : seek.NextOf (f .rows) (source log [] []) (f .state) (f .from) r state) where
-  gives : (t : ℕ) (a : Answer) → seek.onFrom (f .from) r ≡ t → ((g : front.Front) → r ≡ seeks.front g → a ≡ answerOf g) → StepGives f log (record { answer = a; finder = record { live = f .live; rows = f .rows; state = state; from = t } })
-  unfolding StepGives
-  gives t a et ea pattern n (closed l k) = let z : _≡_ {A = ℕ} 0 1 = cc in absurd (omega arith)
-  gives t a et ea pattern n (seeking p l k g) =
-      let h = next .steps p n g in
-      let same : eval (valuation (source log [] [])) p ≡ listOf pattern log = log-answers p log ∙ sym l in
-      record {
-        answer = ea (front.nth (eval (valuation (source log [] [])) p) n) (h .is) ∙ ap (λ (x : List Stretch). answerOf (front.nth x n)) same;
-        led = seeking p l k (subst (seek.Led (f .rows) (source log [] []) p (n + 1) state) et (h .on));
-      }
-
-  pub step-none : (r .status ≡ 1 → ⊥) → StepGives f log (record { answer = answer.None; finder = record { live = f .live; rows = f .rows; state = state; from = f .from } })
-  step-none no-one = gives (f .from) answer.None (ap (λ (b : Bool). pickN b (r .start + 1) (f .from)) (ne-eqb (r .status) 1 no-one)) (λ g e. missed-answer g r e no-one)
-
-  pub step-some : r .status ≡ 1 → StepGives f log (record { answer = answer.Stretch (r .start) (r .end); finder = record { live = f .live; rows = f .rows; state = state; from = r .start + 1 } })
-  step-some one = gives (r .start + 1) (answer.Stretch (r .start) (r .end)) (ap (λ (b : Bool). pickN b (r .start + 1) (f .from)) (eq-eqb (r .status) 1 one)) (λ g e. found-answer g r e one)
+-- the list of an accepted pattern's table is the pattern's
+pub list-in : (text log : List ℕ) → refusal text log .number ≡ 0 → listIn (rowsIn text log) log ≡ listOf text log
+unfolding listIn
+list-in text log e =
+    let k = accepted-number text log e in
+    let a = accepts-spells text (k .tree) (k .reads) in
+    let s : longLog log ≡ false = le-ltb 61440 (length log) (k .brief) in
+    ap (λ b. cond b [] (tableIn (rowsIn text log) log)) s
+    ∙ ap (λ (r : List ℕ). tableIn r log) (ap (λ b. cond b (replicate 128 0) (tableOf (outcomeOf text) .rows)) s ∙ ap (λ (o : Outcome). tableOf o .rows) (k .reads))
+    ∙ table-answers (rowsOf (k .tree)) (k .tree) log (table-tree (k .tree) (a .few)) (a .few) ∙ sym (accepted-list text log (k .tree) (k .brief) (k .reads))
 
 -- ── Filling ──
 
-take-empty : (n f : ℕ) → _≡_ {A = List Stretch} (take n (drop f [])) []
-take-empty zero f = refl
-take-empty (suc n) zero = refl
-take-empty (suc n) (suc f) = refl
+-- of an empty list nothing is written
+pub filling-none : (l : List Stretch) (f : ℕ) (cells : List ℕ) → l ≡ [] → Filling l f cells (record { count = 0; more = false }) cells
+filling-none l f cells e = subst (λ (x : List Stretch). Filling x f cells (record { count = 0; more = false }) cells) (sym e) (record {
+  count = sym (ap length empty);
+  more = sym (ap (λ (x : List Stretch). ltb (f + length x) 0) empty ∙ le-ltb (f + 0) 0 (omega arith));
+  wrote = sym (ap (λ (x : List Stretch). flat x ++ drop (2 * length x) cells) empty);
+})
+  where
+    nothing : (n f : ℕ) → _≡_ {A = List Stretch} (take n (drop f [])) []
+    nothing zero f = refl
+    nothing (suc n) zero = refl
+    nothing (suc n) (suc f) = refl
 
--- a refused call writes nothing
-pub fill-refused : (text log : List ℕ) (f : ℕ) (cells : List ℕ) (r : Readied) → ReadGives text log r → (r .number ≡ 0 → ⊥)
-    → FillGives text log f cells (record { number = r .number; place = r .place; count = 0; more = false }) cells
-fill-refused text log f cells r g n =
-    let l : listOf text log ≡ [] = refused-list text log (refusal text log) refl (omega (arith, g .number)) in
-    let w : written (listOf text log) f cells ≡ [] = ap (λ (x : List Stretch). written x f cells) l ∙ take-empty (pairsIn cells) f in
-    record {
-      result = λ i. record {
-        number = g .number i;
-        place = g .place i;
-        count = sym (ap length w) i;
-        more = sym (ap₂ (λ (x y : List Stretch). ltb (f + length x) (length y)) w l ∙ le-ltb (f + 0) 0 (omega arith)) i;
-      };
-      memory = sym (ap (λ (x : List Stretch). flat x ++ drop (2 * length x) cells) w);
-    }
+    empty : written [] f cells ≡ []
+    empty = nothing (pairsIn cells) f
 
-pub fill-accepted : (text log : List ℕ) (f : ℕ) (cells : List ℕ) (r : Readied) → ReadGives text log r → r .number ≡ 0 → (w : Walked) (cells′ : List ℕ)
-    → seek.FillAll (r .rows) (source log [] []) f cells w cells′
-    → FillGives text log f cells (record { number = 0; place = 0; count = w .count; more = w .more }) cells′
-fill-accepted text log f cells r g z w cells′ a =
-    let k = g .read z in
-    let e : refusal text log ≡ accepted = good-pattern text log (k .tree) (k .brief) (k .reads) in
-    let h = a .fills (k .tree) (good-log log (k .brief)) (fits-read text log (r .rows) k) in
-    let l : eval (valuation (source log [] [])) (k .tree) ≡ listOf text log = log-answers (k .tree) log ∙ sym (accepted-list text log (k .tree) (k .brief) (k .reads)) in
-    record {
-      result = λ i. record {
-        number = sym (ap (λ (x : Refusal). x .number) e) i;
-        place = sym (ap (λ (x : Refusal). x .place) e) i;
-        count = (h .count ∙ ap (λ (x : List Stretch). length (written x f cells)) l) i;
-        more = (h .more ∙ ap (λ (x : List Stretch). moreAfter x f cells) l) i;
-      };
-      memory = h .wrote ∙ ap (λ (x : List Stretch). filled x f cells) l;
-    }
+-- a log that is too long has no answer
+pub long-none : (rows log : List ℕ) (line f : ℕ) (cells : List ℕ) → 61440 < length log → Filling (onward (listIn rows log) line) f cells (record { count = 0; more = false }) cells
+unfolding listIn
+long-none rows log line f cells h =
+    filling-none (onward (listIn rows log) line) f cells (ap (λ b. onward (cond b [] (tableIn rows log)) line) (lt-ltb 61440 (length log) h))
+
+-- any other has the table's
+pub short-list : (rows log : List ℕ) (line f : ℕ) (cells : List ℕ) (w : Walked) (cells′ : List ℕ) → length log ≤ 61440
+    → Filling (onward (tableIn rows log) line) f cells w cells′ → Filling (onward (listIn rows log) line) f cells w cells′
+unfolding listIn
+short-list rows log line f cells w cells′ h g =
+    subst (λ (l : List Stretch). Filling (onward l line) f cells w cells′) (sym (ap (λ b. cond b [] (tableIn rows log)) (le-ltb 61440 (length log) h))) g
+
+-- and rows of at most 960 words
+pub short-width : (log : List ℕ) (w : ℕ) → w ≡ widthOf log → length log ≤ 61440 → w ≤ 960
+short-width log w e h = omega (arith, says-few log)
+
+-- over the machine's table
+pub machine-fills : (rows log : List ℕ) (w : ℕ) (words t words′ : List ℕ) (line f : ℕ) (cells : List ℕ) (r : Walked) (cells′ : List ℕ)
+    → (length rows ≡ 128) × (w ≡ widthOf log) × (w ≤ 960) × (32 * w ≤ length words) → t ≡ prepared rows log w words .rows → words′ ≡ prepared rows log w words .words
+    → FillAll (source words′ []) t line f cells r cells′ → Filling (onward (tableIn rows log) line) f cells r cells′
+unfolding tableIn
+machine-fills rows log w words t words′ line f cells r cells′ h et ew g =
+    let lines : length (says log) ≤ 64 * w = omega (arith, h .1) in
+    let narrow : w ≤ 1024 = omega (arith, h .2) in
+    let room = room-enough rows w (length words) (h .3) in
+    let good : Good (source words′ []) t = subst (λ (x : List ℕ). Good (source x []) t) (sym ew)
+    (subst (Good (source (prepared rows log w words .words) [])) (sym et) (prepared-good rows log w words (h .0) narrow lines room)) in
+    subst (λ (l : List Stretch). Filling (onward l line) f cells r cells′)
+    (ap₂ (λ (x y : List ℕ). tableList (source x []) y 0) ew et ∙ prepared-lists rows log w words (h .0) narrow lines room 0) (g .fills good)
+
+-- the filling call
+module _ (text log : List ℕ) (f : ℕ) (cells : List ℕ) (r : Readied) (e : r ≡ readied text log) where
+  number-is : r .number ≡ refusal text log .number
+  number-is = ap (λ (x : Readied). x .number) e
+
+  whole : (w : Walked) (cells′ : List ℕ) → Filling (listOf text log) f cells w cells′
+      → (_≡_ {A = Filled} (record { number = r .number; place = r .place; count = w .count; more = w .more }) (filling text log f cells)) × (cells′ ≡ filled (listOf text log) f cells)
+  whole w cells′ g = ((λ i. record { number = e i .number; place = e i .place; count = g .count i; more = g .more i }), g .wrote)
+
+  pub fill-refused : (r .number ≡ 0 → ⊥)
+      → (_≡_ {A = Filled} (record { number = r .number; place = r .place; count = 0; more = false }) (filling text log f cells)) × (cells ≡ filled (listOf text log) f cells)
+  fill-refused n = whole (record { count = 0; more = false }) cells (filling-none (listOf text log) f cells (refused-list text log (refusal text log) refl (omega (arith, number-is))))
+
+  pub fill-accepted : r .number ≡ 0 → (w : Walked) (cells′ : List ℕ) → Filling (onward (listIn (r .rows) log) 0) f cells w cells′
+      → (_≡_ {A = Filled} (record { number = 0; place = 0; count = w .count; more = w .more }) (filling text log f cells)) × (cells′ ≡ filled (listOf text log) f cells)
+  fill-accepted z w cells′ g =
+      let zero-number : refusal text log .number ≡ 0 = sym number-is ∙ z in
+      let k = accepted-number text log zero-number in
+      let a : refusal text log ≡ accepted = good-pattern text log (k .tree) (k .brief) (k .reads) in
+      let l : onward (listIn (r .rows) log) 0 ≡ listOf text log =
+      onward-all (listIn (r .rows) log) (fine-in (r .rows) log .rising) ∙ ap (λ (x : Readied). listIn (x .rows) log) e ∙ list-in text log zero-number in
+      let h = subst (λ (x : List Stretch). Filling x f cells w cells′) l g in
+      ((λ i. record { number = sym a i .number; place = sym a i .place; count = h .count i; more = h .more i }), h .wrote)
+
+-- ── Stepping ──
+
+-- the buffer of the next answers
+module _ (l : List Stretch) (fine : Fine 65536 l) (line : ℕ) (found : List ℕ) (wide : length found ≡ 128) where
+  abbrev rest : List Stretch
+  rest = onward l line
+
+  pub found-few : length (written rest 0 found) ≤ 64
+  found-few = omega (arith, length-take (pairsIn found) (drop 0 rest))
+
+  -- a start among the first n
+  start-small : (xs : List Stretch) (after : List ℕ) → ((s e : ℕ) → In s e xs → s < 65536) → (n : ℕ) → n < length xs → getD (flat xs ++ after) (2 * n) 0 < 65536
+  start-small [] after h n k = absurd (omega arith)
+  start-small (x ∷ xs) after h zero k = h (x .start) (x .end) (inl (refl, refl))
+  start-small (x ∷ xs) after h (suc n) k =
+      let z : 2 * suc n ≡ suc (suc (2 * n)) = omega arith in
+      subst (λ (i : ℕ). getD (x .start ∷ x .end ∷ (flat xs ++ after)) i 0 < 65536) (sym z) (start-small xs after (λ s e m. h s e (inr m)) n (omega arith))
+
+  taken-in : (n : ℕ) (xs : List Stretch) (s e : ℕ) → In s e (take n xs) → In s e xs
+  taken-in zero xs s e m = absurd m
+  taken-in (suc n) [] s e m = absurd m
+  taken-in (suc n) (x ∷ xs) s e (inl m) = inl m
+  taken-in (suc n) (x ∷ xs) s e (inr m) = inr (taken-in n xs s e m)
+
+  pub start-fits : (n : ℕ) → n ≡ length (written rest 0 found) → 0 < n → getD (filled rest 0 found) (2 * (n - 1)) 0 < 65536
+  start-fits n e h =
+      start-small (written rest 0 found) (drop (2 * length (written rest 0 found)) found)
+      (λ s x m. let k = in-onward l line s x (taken-in (pairsIn found) rest s x m) .0 in omega (arith, fine .sound s x k, fine .below s x k)) (n - 1) (omega arith)
+
+module _ (l : List Stretch) (f : Finder) where
+  pub step-closed : not (f .live) ≡ true → none f ≡ stepOver l f
+  unfolding stepOver
+  step-closed h = sym (ap (λ b. cond b (cond (waits f || f .used) (offered f) (offered (refilled l f))) (none f)) (not-true (f .live) h))
+
+  module _ (live : not (f .live) ≡ false) where
+    open-step : cond (waits f || f .used) (offered f) (offered (refilled l f)) ≡ stepOver l f
+    unfolding stepOver
+    open-step = sym (ap (λ b. cond b (cond (waits f || f .used) (offered f) (offered (refilled l f))) (none f)) (not-false (f .live) live))
+
+    pub step-waits : (b : Bool) → b ≡ waits f → b ≡ true → handed f ≡ stepOver l f
+    step-waits b e h = let k : waits f ≡ true = sym e ∙ h in
+        sym (ap (λ t. cond t (handed f) (none f)) k) ∙ sym (ap (λ t. cond (t || f .used) (offered f) (offered (refilled l f))) k) ∙ open-step
+
+    pub step-used : (b : Bool) → b ≡ waits f → b ≡ false → f .used ≡ true → none f ≡ stepOver l f
+    step-used b e h u = let k : waits f ≡ false = sym e ∙ h in
+        sym (ap (λ t. cond t (handed f) (none f)) k) ∙ sym (ap₂ (λ t u. cond (t || u) (offered f) (offered (refilled l f))) k u) ∙ open-step
+
+    pub step-on : (b : Bool) → b ≡ waits f → b ≡ false → f .used ≡ false → (g : Finder) → g ≡ refilled l f → offered g ≡ stepOver l f
+    step-on b e h u g r = ap offered r ∙ sym (ap₂ (λ t u. cond (t || u) (offered f) (offered (refilled l f))) (sym e ∙ h) u) ∙ open-step
+
+pub offer-some : (f : Finder) (b : Bool) → b ≡ waits f → b ≡ true → handed f ≡ offered f
+offer-some f b e h = sym (ap (λ t. cond t (handed f) (none f)) (sym e ∙ h))
+
+pub offer-none : (f : Finder) (b : Bool) → b ≡ waits f → b ≡ false → none f ≡ offered f
+offer-none f b e h = sym (ap (λ t. cond t (handed f) (none f)) (sym e ∙ h))
+
+pub waits-room : {b : Bool} (given count : ℕ) → b ≡ among given count → b ≡ true → given < 64
+waits-room given count e h = ltb-true given 64 (and-true (ltb given count) (ltb given 64) (sym e ∙ h) .1)
+
+pub line-more : (line : ℕ) (found : List ℕ) (n : ℕ) → (n ≡ 0 → ⊥) → getD found (2 * (n - 1)) 0 + 1 ≡ lineAfter line found n
+line-more line found zero h = absurd (h refl)
+line-more line found (suc n) h = let z : suc n - 1 ≡ n = omega arith in ap (λ (k : ℕ). getD found (2 * k) 0 + 1) z
+
+-- finding the next answers
+module _ (l : List Stretch) (f : Finder) (w : Walked) (found : List ℕ) (g : Filling (onward l (f .from)) 0 (f .found) w found) where
+  pub refill-room : Fine 65536 l → length (f .found) ≡ 128 → (w .count ≤ 64) × (0 < w .count → getD found (2 * (w .count - 1)) 0 < 65536)
+  refill-room fine wide = (
+    omega (arith, g .count, found-few l fine (f .from) (f .found) wide),
+    λ h. subst (λ (c : List ℕ). getD c (2 * (w .count - 1)) 0 < 65536) (sym (g .wrote)) (start-fits l fine (f .from) (f .found) wide (w .count) (g .count) h),
+  )
+
+  pub refill-is : (line : ℕ) → line ≡ lineAfter (f .from) found (w .count)
+      → _≡_ {A = Finder} (record { live = f .live; rows = f .rows; found = found; count = w .count; given = 0; from = line; used = not (w .more) }) (refilled l f)
+  refill-is line e = λ i. record {
+    live = f .live;
+    rows = f .rows;
+    found = g .wrote i;
+    count = g .count i;
+    given = 0;
+    from = (e ∙ ap₂ (lineAfter (f .from)) (g .wrote) (g .count)) i;
+    used = ap not (g .more) i;
+  }

@@ -1,66 +1,78 @@
--- Whatever the calls show is the list of the pattern in the log; so a run of whole lines decides its own stretches.
--- Assumes nothing.
-use Prim.Native.Nat.{ℕ, zero, suc, _+_, _*_}
-use mathlib.Core.Path.{_≡_, refl, sym, ap, ap₂, _∙_}
+-- Whatever the calls show is the list of the pattern in the log, and the calls do show it; so a run of whole lines decides its own stretches. Assumes nothing.
+use Prim.Native.Nat.{ℕ, zero, suc, _*_, _≤_}
+use mathlib.Core.Path.{_≡_, refl, sym, ap, _∙_}
 use mathlib.Core.Logic.{inl, inr}
+use mathlib.Core.Bool.{false}
 use mathlib.Core.List.{List, [], _∷_, _++_}
-use lib.ListN.{length, take, drop}
+use lib.ListN.{length, drop}
 use native.Mathlib.Omega.{arith}
 use Rattle.stretches.specs.Stretch as s
 use Rattle.stretches.specs.Front as front
+use Rattle.stretches.specs.Filling.{moreAfter}
 use Rattle.stretches.specs.Run.{cut}
+use Rattle.stretches.proofs.Filling.{filled-front, done-all, room-done, drop-step}
 use Rattle.event_log.specs.Lines.{lines, Whole}
-use Rattle.meaning.specs.declared.Filled.{Filled}
 use Rattle.meaning.specs.Refusals.{refusal, accepted}
-use Rattle.meaning.specs.Filling.{written}
-use Rattle.meaning.specs.Lent.{pairs}
-use Rattle.meaning.specs.Finding.{listOf, filling}
+use Rattle.meaning.specs.Finding.{listOf}
 use Rattle.meaning.proofs.Finding.{run-list}
-use Rattle.meaning.proofs.Filling.{filled-front, done-all}
 use Rattle.finder.specs.declared.Finder.{Finder}
 use Rattle.finder.specs.declared.Answer.the-variants.{None, Stretch}
-use Rattle.finder.specs.Promises.{answerOf, Led, StepGives}
-use Rattle.finder.specs.Whole.{Steps, last, more, Taken, Written, Shown}
+use Rattle.finder.specs.Promises.{stepped}
+use Rattle.finder.specs.Whole.{answerOf, after, Steps, last, more, Taken, Written, Shown}
+use Rattle.finder.proofs.Stepping.{step-answer}
 
--- ── What the calls show is the list ──
+-- ── The steps ──
 
--- the stretches from number n on, by their heads
-rest-none : (l : List s.Stretch) (n : ℕ) → answerOf (front.nth l n) ≡ None → drop n l ≡ []
+-- the list from number n on, by its first
+pub rest-none : (l : List s.Stretch) (n : ℕ) → answerOf (front.nth l n) ≡ None → drop n l ≡ []
 rest-none [] zero e = refl
 rest-none [] (suc n) e = refl
 rest-none (x ∷ l) zero e = let z : _≡_ {A = ℕ} 0 1 = cc in absurd (omega arith)
 rest-none (x ∷ l) (suc n) e = rest-none l n e
 
-rest-some : (l : List s.Stretch) (n a b : ℕ) → answerOf (front.nth l n) ≡ Stretch a b → drop n l ≡ s.st a b ∷ drop (suc n) l
+pub rest-some : (l : List s.Stretch) (n a b : ℕ) → answerOf (front.nth l n) ≡ Stretch a b → drop n l ≡ s.st a b ∷ drop (suc n) l
 rest-some [] zero a b e = let z : _≡_ {A = ℕ} 0 1 = cc in absurd (omega arith)
 rest-some [] (suc n) a b e = let z : _≡_ {A = ℕ} 0 1 = cc in absurd (omega arith)
 rest-some (x ∷ l) zero a b e = let p : x .start ≡ a = cc in let q : x .end ≡ b = cc in λ i. record { start = p i; end = q i } ∷ l
 rest-some (x ∷ l) (suc n) a b e = rest-some l n a b e
 
-steps-rest : {log : List ℕ} {f : Finder} {xs : List s.Stretch} → Steps log f xs → (pattern : List ℕ) (n : ℕ) → Led pattern log n f → xs ≡ drop n (listOf pattern log)
-unfolding StepGives
-steps-rest {log} (last r g e) pattern n led = sym (rest-none (listOf pattern log) n (sym (g pattern n led .answer) ∙ e))
-steps-rest {log} (more r a b g e rest) pattern n led =
-    let z : n + 1 ≡ suc n = omega arith in
-    ap (λ (ys : List s.Stretch). s.st a b ∷ ys) (steps-rest rest pattern (n + 1) (g pattern n led .led) ∙ ap (λ (k : ℕ). drop k (listOf pattern log)) z)
-    ∙ sym (rest-some (listOf pattern log) n a b (sym (g pattern n led .answer) ∙ e))
+module _ (pattern log : List ℕ) where
+  steps-rest : {f : Finder} {xs : List s.Stretch} → Steps log f xs → (n : ℕ) → f ≡ after pattern log n → xs ≡ drop n (listOf pattern log)
+  unfolding after
+  steps-rest (last e) n k = sym (rest-none (listOf pattern log) n (sym (step-answer pattern log n) ∙ sym (ap (λ (f : Finder). stepped f log .answer) k) ∙ e))
+  steps-rest (more a b e rest) n k =
+      ap (λ (ys : List s.Stretch). s.st a b ∷ ys) (steps-rest rest (suc n) (ap (λ (f : Finder). stepped f log .finder) k))
+      ∙ sym (rest-some (listOf pattern log) n a b (sym (step-answer pattern log n) ∙ sym (ap (λ (f : Finder). stepped f log .answer) k) ∙ e))
 
--- the steps up to the first none are exactly the list
-pub taken-list : (pattern log : List ℕ) (xs : List s.Stretch) → Taken pattern log xs → xs ≡ listOf pattern log
-taken-list pattern log xs t = steps-rest (t .steps) pattern 0 (t .opens .led)
+  steps-there : (n : ℕ) (rest : List s.Stretch) → drop n (listOf pattern log) ≡ rest → Steps log (after pattern log n) rest
+  unfolding after
+  steps-there n [] e = last (step-answer pattern log n ∙ ap (λ (l : List s.Stretch). answerOf (front.headOf l)) e)
+  steps-there n (x ∷ xs) e =
+      more (x .start) (x .end) (step-answer pattern log n ∙ ap (λ (l : List s.Stretch). answerOf (front.headOf l)) e)
+      (steps-there (suc n) xs (drop-step n (listOf pattern log) x xs e .0))
 
--- a filling that says "done" has written exactly the list
-pub written-list : (pattern log : List ℕ) (xs : List s.Stretch) → Written pattern log xs → xs ≡ listOf pattern log
-written-list pattern log xs w =
-    let l : List s.Stretch = listOf pattern log in
-    let r : w .result ≡ filling pattern log 0 (w .cells) = w .fills .result in
-    let n : w .result .count ≡ length (written l 0 (w .cells)) = ap (λ (x : Filled). x .count) r in
-    w .shows ∙ (ap₂ (λ (k : ℕ) (c : List ℕ). pairs (take (2 * k) c)) n (w .fills .memory)
-    ∙ (filled-front l 0 (w .cells) ∙ done-all l (w .cells) (sym (ap (λ (x : Filled). x .more) r) ∙ w .done)))
+  -- the steps up to the first none give exactly the list
+  pub taken-list : (xs : List s.Stretch) → Taken pattern log xs → xs ≡ listOf pattern log
+  unfolding after
+  taken-list xs t = steps-rest t 0 refl
 
-pub shown-list : (pattern log : List ℕ) (xs : List s.Stretch) → Shown pattern log xs → xs ≡ listOf pattern log
-shown-list pattern log xs (inl t) = taken-list pattern log xs t
-shown-list pattern log xs (inr w) = written-list pattern log xs w
+  pub taken-there : Taken pattern log (listOf pattern log)
+  unfolding after
+  taken-there = steps-there 0 (listOf pattern log) refl
+
+  -- a filling that says "done" has written exactly the list
+  pub written-list : (xs : List s.Stretch) → Written pattern log xs → xs ≡ listOf pattern log
+  written-list xs w = w .shows ∙ filled-front (listOf pattern log) 0 (w .cells) ∙ done-all (listOf pattern log) (w .cells) (w .done)
+
+  -- and with two cells for each answer it says so
+  pub written-there : (cells : List ℕ) → 2 * length (listOf pattern log) ≤ length cells → Written pattern log (listOf pattern log)
+  written-there cells h =
+      let d : moreAfter (listOf pattern log) 0 cells ≡ false = room-done (listOf pattern log) cells h in
+      record { cells = cells; done = d; shows = sym (filled-front (listOf pattern log) 0 cells ∙ done-all (listOf pattern log) cells d) }
+
+  pub shown-list : (xs : List s.Stretch) → Shown pattern log xs → xs ≡ listOf pattern log
+  shown-list xs (inl t) = taken-list xs t
+  shown-list xs (inr w) = written-list xs w
 
 -- ── Demand 3 ──
 
@@ -70,8 +82,7 @@ pub run-decides : (pattern a run b : List ℕ) → Whole a → Whole run → ref
     → (xs ys : List s.Stretch) → Shown pattern (a ++ (run ++ b)) xs → Shown pattern run ys
     → cut (length (lines a)) (length (lines run)) xs ≡ ys
 run-decides pattern a run b wa wr ok xs ys p q =
-    ap (cut (length (lines a)) (length (lines run))) (shown-list pattern (a ++ (run ++ b)) xs p)
-    ∙ (run-list pattern a run b ok wa wr ∙ sym (shown-list pattern run ys q))
+    ap (cut (length (lines a)) (length (lines run))) (shown-list pattern (a ++ (run ++ b)) xs p) ∙ run-list pattern a run b ok wa wr ∙ sym (shown-list pattern run ys q)
 
 -- the same run in two accepted logs, at any two places
 pub runs-agree : (pattern a b c d run : List ℕ) → Whole a → Whole c → Whole run
@@ -79,6 +90,5 @@ pub runs-agree : (pattern a b c d run : List ℕ) → Whole a → Whole c → Wh
     → (xs ys : List s.Stretch) → Shown pattern (a ++ (run ++ b)) xs → Shown pattern (c ++ (run ++ d)) ys
     → cut (length (lines a)) (length (lines run)) xs ≡ cut (length (lines c)) (length (lines run)) ys
 runs-agree pattern a b c d run wa wc wr ok ok′ xs ys p q =
-    ap (cut (length (lines a)) (length (lines run))) (shown-list pattern (a ++ (run ++ b)) xs p)
-    ∙ (run-list pattern a run b ok wa wr ∙ (sym (run-list pattern c run d ok′ wc wr)
-    ∙ ap (cut (length (lines c)) (length (lines run))) (sym (shown-list pattern (c ++ (run ++ d)) ys q))))
+    ap (cut (length (lines a)) (length (lines run))) (shown-list pattern (a ++ (run ++ b)) xs p) ∙ run-list pattern a run b ok wa wr
+    ∙ sym (ap (cut (length (lines c)) (length (lines run))) (shown-list pattern (c ++ (run ++ d)) ys q) ∙ run-list pattern c run d ok′ wc wr)

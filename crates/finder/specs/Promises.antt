@@ -1,68 +1,89 @@
--- What the opening, the step and the filling call promise: the paper's "Finding". Each name is the proposition that the call's `ensures` states.
--- Assumes nothing.
-use Prim.Native.Nat.{ℕ, _+_, _≤_}
-use mathlib.Core.Path.{_≡_}
-use mathlib.Core.Bool.{true, false}
+-- What the opening and a step give: the paper's "Finding". Assumes nothing.
+use Prim.Native.Nat.{ℕ, zero, suc, _+_, _*_}
+use mathlib.Core.Bool.{Bool, false, cond, not, _&&_, _||_}
 use mathlib.Core.List.{List, []}
-use lib.ListN.{length}
-use Rattle.stretches.specs.Front as front
-use Rattle.pattern.specs.Pattern.{Pattern}
-use Rattle.pattern.specs.Rows.{rowsOf}
-use Rattle.pattern.specs.Reading.{Accepts, outcomeOf}
-use Rattle.meaning.specs.declared.Filled.{Filled}
-use Rattle.meaning.specs.Meaning.{answersIn}
-use Rattle.meaning.specs.Refusals.{refusal}
-use Rattle.meaning.specs.Filling.{filled}
-use Rattle.meaning.specs.Finding.{listOf, filling}
-use Rattle.seek.specs.Source.{source}
-use Rattle.seek.specs.Steps as seek
+use lib.ListN.{length, getD, replicate}
+use lib.Dec.{ltb, eqb}
+use Rattle.stretches.specs.Stretch as s
+use Rattle.stretches.specs.Front.{onward}
+use Rattle.stretches.specs.Filling.{written, filled, moreAfter}
+use Rattle.pattern.specs.Reading.{outcomeOf, tableOf}
+use Rattle.meaning.specs.Meaning.{tableIn}
+use Rattle.meaning.specs.Refusals.{longLog, refusal}
 use Rattle.finder.specs.declared.Finder.{Finder}
-use Rattle.finder.specs.declared.Answer.{Answer}
 use Rattle.finder.specs.declared.Answer.the-variants.{None, Stretch}
 use Rattle.finder.specs.declared.Opened.{Opened}
 use Rattle.finder.specs.declared.Stepped.{Stepped}
 use Rattle.finder.specs.declared.Readied.{Readied}
 
--- the stretch, or "none"
-abbrev pub answerOf : front.Front → Answer
-answerOf front.None = None
-answerOf (front.At x) = Stretch (x .start) (x .end)
+-- ── Opening ──
 
--- the finder after n steps from the opening on this pattern and log: of a refused opening it is not live; else it seeks on for answer number n
-pub data Led (pattern log : List ℕ) (n : ℕ) (f : Finder) : Type 0 where
-  closed : listOf pattern log ≡ [] → f .live ≡ false → Led pattern log n f
-  seeking : (p : Pattern) → listOf pattern log ≡ answersIn p log → f .live ≡ true → seek.Led (f .rows) (source log [] []) p n (f .state) (f .from) → Led pattern log n f
+-- a pattern's table; where pattern or log is refused, zeros
+abbrev pub rowsIn : List ℕ → List ℕ → List ℕ
+rowsIn pattern log = cond (longLog log) (replicate 128 0) (tableOf (outcomeOf pattern) .rows)
 
--- the opening: the refusal's number and place, and a finder that gives the list from its first stretch on
-pub record OpenGives (pattern log : List ℕ) (r : Opened) : Type 0 where
-  pub number : r .number ≡ refusal pattern log .number
-  pub place : r .place ≡ refusal pattern log .place
-  pub led : Led pattern log 0 (r .finder)
+-- no answer found yet, and the first is sought from line 0 on
+abbrev pub fresh : Bool → List ℕ → Finder
+fresh live rows = record { live = live; rows = rows; found = replicate 128 0; count = 0; given = 0; from = 0; used = false }
 
--- answer number n, or none past the last, and the finder for the next step
-pub record Leads (pattern log : List ℕ) (n : ℕ) (r : Stepped) : Type 0 where
-  pub answer : r .answer ≡ answerOf (front.nth (listOf pattern log) n)
-  pub led : Led pattern log (n + 1) (r .finder)
+-- live exactly if pattern and log are accepted
+abbrev pub opened : List ℕ → List ℕ → Opened
+opened pattern log = record {
+  number = refusal pattern log .number;
+  place = refusal pattern log .place;
+  finder = fresh (eqb (refusal pattern log .number) 0) (rowsIn pattern log);
+}
 
--- a step with the log of the opening; with another log, or a finder that no opening led to, the answer is free
-unfoldable pub StepGives : Finder → List ℕ → Stepped → Type 0
-StepGives f log r = (pattern : List ℕ) (n : ℕ) → Led pattern log n f → Leads pattern log n r
+-- ── Stepping ──
 
--- the filling call from number f: what it returns, and every cell
-pub record FillGives (pattern log : List ℕ) (f : ℕ) (cells : List ℕ) (r : Filled) (cells′ : List ℕ) : Type 0 where
-  pub result : r ≡ filling pattern log f cells
-  pub memory : cells′ ≡ filled (listOf pattern log) f cells
+-- the list that a table has in a log; in a log above 61,440 bytes it is empty
+unfoldable pub listIn : List ℕ → List ℕ → List s.Stretch
+listIn rows log = cond (longLog log) [] (tableIn rows log)
 
--- ── On the way: what the private function that reads both promises ──
+-- a found answer is still to be given; there is room for 64
+abbrev pub among : ℕ → ℕ → Bool
+among given count = ltb given count && ltb given 64
 
--- pattern and log are accepted, and these are the rows of the pattern's table
-pub record Read (pattern log rows : List ℕ) : Type 0 where
-  pub brief : length log ≤ 61440
-  pub tree : Pattern
-  pub reads : outcomeOf pattern ≡ Accepts tree
-  pub table : rows ≡ rowsOf tree
+abbrev pub waits : Finder → Bool
+waits f = among (f .given) (f .count)
 
-pub record ReadGives (pattern log : List ℕ) (r : Readied) : Type 0 where
-  pub number : r .number ≡ refusal pattern log .number
-  pub place : r .place ≡ refusal pattern log .place
-  pub read : r .number ≡ 0 → Read pattern log (r .rows)
+-- the next found answer
+abbrev pub handed : Finder → Stepped
+handed f = record {
+  answer = Stretch (getD (f .found) (2 * f .given) 0) (getD (f .found) (2 * f .given + 1) 0);
+  finder = record { live = f .live; rows = f .rows; found = f .found; count = f .count; given = f .given + 1; from = f .from; used = f .used };
+}
+
+-- "none", and the same finder
+abbrev pub none : Finder → Stepped
+none f = record { answer = None; finder = f }
+
+abbrev pub offered : Finder → Stepped
+offered f = cond (waits f) (handed f) (none f)
+
+-- the line after the start of the last of n found answers; where there is none, the line itself
+abbrev pub lineAfter : ℕ → List ℕ → ℕ → ℕ
+lineAfter line found zero = line
+lineAfter line found (suc n) = getD found (2 * n) 0 + 1
+
+-- the next answers of l found, those that start at the line or later; used up exactly if no further one exists
+abbrev pub refilled : List s.Stretch → Finder → Finder
+refilled l f =
+    let rest = onward l (f .from) in
+    let found = filled rest 0 (f .found) in
+    let count = length (written rest 0 (f .found)) in
+    record { live = f .live; rows = f .rows; found = found; count = count; given = 0; from = lineAfter (f .from) found count; used = not (moreAfter rest 0 (f .found)) }
+
+-- a step, l being the list: a live finder offers what it has found, and seeks on where nothing waits and it is not used up
+unfoldable pub stepOver : List s.Stretch → Finder → Stepped
+stepOver l f = cond (f .live) (cond (waits f || f .used) (offered f) (offered (refilled l f))) (none f)
+
+-- with any log, for every finder
+abbrev pub stepped : Finder → List ℕ → Stepped
+stepped f log = stepOver (listIn (f .rows) log) f
+
+-- ── On the way ──
+
+-- the refusal and the table
+abbrev pub readied : List ℕ → List ℕ → Readied
+readied pattern log = record { number = refusal pattern log .number; place = refusal pattern log .place; rows = rowsIn pattern log }

@@ -1,16 +1,32 @@
 // The finder: opens on a pattern and a log, gives the next stretch at each step, or fills all of them into lent cells.
 use meaning::Filled;
 use pattern::Verdict;
+use seek::Walked;
 ghost use mathlib.Core.Path.{_≡_};
+ghost use Prim.Native.Nat.{_-_, _*_, _≤_, _<_};
+ghost use lib.ListN.{length, getD};
+ghost use Rattle.stretches.specs.Front.{onward};
+ghost use Rattle.stretches.specs.Filling.{filled};
 ghost use Rattle.pattern.specs.Answer.{numberOf, placeOf};
-ghost use Rattle.finder.specs.Promises.{OpenGives, StepGives, FillGives, ReadGives};
+ghost use Rattle.meaning.specs.Meaning.{tableIn};
+ghost use Rattle.meaning.specs.Finding.{listOf, filling};
+ghost use Rattle.marking.specs.Rows.{widthOf};
+ghost use Rattle.seek.specs.Steps.{Filling};
+ghost use Rattle.finder.specs.Promises.{readied, opened, listIn, among, handed, lineAfter, refilled, stepped};
 
-// What a step keeps: the pattern's table, the machine's state, and the line from which the next stretch is sought. Not live: it only says none.
+// The bytes that a log may have.
+const LOG_MAX: usize = 61440;
+
+// What a step keeps: the pattern's table, the next answers found, start then end, how many they are and how many of them were given, the line from
+// which the following ones are sought, and whether none follow. Not live: it only says none.
 pub struct Finder {
     pub live: bool,
     pub rows: [usize; 128],
-    pub state: [u32; 192],
+    pub found: [u32; 128],
+    pub count: usize,
+    pub given: usize,
     pub from: u32,
+    pub used: bool,
 }
 
 // The next stretch, or none.
@@ -67,9 +83,9 @@ fn place_of(v: Verdict) -> usize
 
 // Measures the log, then reads the pattern.
 fn read_both(text: &[u8], log: &[u8]) -> Readied
-    ensures { λ r. ⌜ ReadGives (now (text .entry)) (now (log .entry)) r ⌝ }
+    ensures { λ r. ⌜ r ≡ readied (now (text .entry)) (now (log .entry)) ⌝ }
 {
-    if 61440 < log.len() {
+    if LOG_MAX < log.len() {
         let rows = [0usize; 128];
         return Readied {
             number: 1,
@@ -88,29 +104,154 @@ fn read_both(text: &[u8], log: &[u8]) -> Readied
     }
 }
 
+// ── The search ──
+
+// Marks the log's lines into these words, and writes the answers from the line on.
+fn fill_with(
+    rows: &[usize; 128],
+    log: &[u8],
+    width: usize,
+    words: &mut [u64],
+    cells: &mut [u32],
+    line: u32,
+    from: usize,
+) -> Walked
+    requires { ⌜ (length (now rows) ≡ 128) × (width ≡ widthOf (now log)) × (width ≤ 960) × (32 * width ≤ length (now words)) ⌝ }
+    ensures { λ r. ⌜ Filling (onward (tableIn (now (rows .entry)) (now (log .entry))) line) from (now (cells .entry)) r (now (cells .exit)) ⌝ }
+{
+    let table = marking::prepare(rows, log, width, words);
+    let items = [0u32; 1];
+    seek::fill(&table, words, &items[..0], cells, line, from)
+}
+
+// Few lines: 32 KiB of words.
+fn fill_small(
+    rows: &[usize; 128],
+    log: &[u8],
+    width: usize,
+    cells: &mut [u32],
+    line: u32,
+    from: usize,
+) -> Walked
+    requires { ⌜ (length (now rows) ≡ 128) × (width ≡ widthOf (now log)) × (width ≤ 128) ⌝ }
+    ensures { λ r. ⌜ Filling (onward (tableIn (now (rows .entry)) (now (log .entry))) line) from (now (cells .entry)) r (now (cells .exit)) ⌝ }
+{
+    let mut words = [0u64; 4096];
+    fill_with(rows, log, width, &mut words[..], cells, line, from)
+}
+
+// Any number of lines: 240 KiB of words.
+fn fill_large(
+    rows: &[usize; 128],
+    log: &[u8],
+    width: usize,
+    cells: &mut [u32],
+    line: u32,
+    from: usize,
+) -> Walked
+    requires { ⌜ (length (now rows) ≡ 128) × (width ≡ widthOf (now log)) × (width ≤ 960) ⌝ }
+    ensures { λ r. ⌜ Filling (onward (tableIn (now (rows .entry)) (now (log .entry))) line) from (now (cells .entry)) r (now (cells .exit)) ⌝ }
+{
+    let mut words = [0u64; 30720];
+    fill_with(rows, log, width, &mut words[..], cells, line, from)
+}
+
+// Writes the table's answers in the log that start at or after `line`, from number `from` of them on; a log that is too long has none.
+fn fill_from(rows: &[usize; 128], log: &[u8], cells: &mut [u32], line: u32, from: usize) -> Walked
+    requires { ⌜ length (now rows) ≡ 128 ⌝ }
+    ensures { λ r. ⌜ Filling (onward (listIn (now (rows .entry)) (now (log .entry))) line) from (now (cells .entry)) r (now (cells .exit)) ⌝ }
+{
+    if LOG_MAX < log.len() {
+        return Walked {
+            count: 0,
+            more: false,
+        };
+    }
+    let width = marking::width(log);
+    if width <= 128 {
+        return fill_small(rows, log, width, cells, line, from);
+    }
+    fill_large(rows, log, width, cells, line, from)
+}
+
+// ── Opening and stepping ──
+
 // Opens on a pattern and a log. Refused: a finder that only says none.
 pub fn open(text: &[u8], log: &[u8]) -> Opened
-    ensures { λ r. ⌜ OpenGives (now (text .entry)) (now (log .entry)) r ⌝ }
+    ensures { λ r. ⌜ r ≡ opened (now (text .entry)) (now (log .entry)) ⌝ }
 {
     let r = read_both(text, log);
     let rows = r.rows;
-    let state = [0u32; 192];
+    let found = [0u32; 128];
     Opened {
         number: r.number,
         place: r.place,
         finder: Finder {
             live: r.number == 0,
             rows,
-            state,
+            found,
+            count: 0,
+            given: 0,
             from: 0,
+            used: false,
         },
     }
 }
 
+// Whether a found answer is still to be given.
+fn waiting(given: usize, count: usize) -> bool
+    ensures { λ r. ⌜ r ≡ among given count ⌝ }
+{
+    if given < count { given < 64 } else { false }
+}
+
+// The next found answer.
+fn hand(mut f: Finder) -> Stepped
+    requires { ⌜ f .given < 64 ⌝ }
+    ensures { λ r. ⌜ r ≡ handed f ⌝ }
+{
+    let found = f.found;
+    let i = 2 * f.given;
+    f.given += 1;
+    Stepped {
+        answer: Answer::Stretch {
+            start: found[i],
+            end: found[i + 1],
+        },
+        finder: f,
+    }
+}
+
+// The line after the start of the last of n found answers.
+fn line_after(line: u32, found: [u32; 128], n: usize) -> u32
+    requires { ⌜ (n ≤ 64) × (0 < n → getD found (2 * (n - 1)) 0 < 65536) ⌝ }
+    ensures { λ r. ⌜ r ≡ lineAfter line found n ⌝ }
+{
+    if n == 0 {
+        return line;
+    }
+    found[2 * (n - 1)] + 1
+}
+
+// Finds the next answers.
+fn refill(mut f: Finder, log: &[u8]) -> Finder
+    ensures { λ r. ⌜ r ≡ refilled (listIn (f .rows) (now (log .entry))) f ⌝ }
+{
+    let rows = f.rows;
+    let mut found = f.found;
+    let w = fill_from(&rows, log, &mut found[..], f.from, 0);
+    f.from = line_after(f.from, found, w.count);
+    f.found = found;
+    f.count = w.count;
+    f.given = 0;
+    f.used = !w.more;
+    f
+}
+
 impl Finder {
-    // The next stretch or none, and the finder for the next step. With another log than the opening's the answer is free.
+    // The next stretch or none, and the finder for the next step: over the log of the opening, the list's next stretch.
     pub fn step(mut self, log: &[u8]) -> Stepped
-        ensures { λ r. ⌜ StepGives self (now (log .entry)) r ⌝ }
+        ensures { λ r. ⌜ r ≡ stepped self (now (log .entry)) ⌝ }
     {
         if !self.live {
             return Stepped {
@@ -118,24 +259,21 @@ impl Finder {
                 finder: self,
             };
         }
-        let rows = self.rows;
-        let mut state = self.state;
-        let items = [0u32; 1];
-        let ends = [0u32; 1];
-        let f = seek::next(&rows, log, &items[..0], &ends[..0], &mut state, self.from);
-        self.state = state;
-        if f.status != 1 {
+        if waiting(self.given, self.count) {
+            return hand(self);
+        }
+        if self.used {
             return Stepped {
                 answer: Answer::None,
                 finder: self,
             };
         }
-        self.from = f.start + 1;
+        self = refill(self, log);
+        if waiting(self.given, self.count) {
+            return hand(self);
+        }
         Stepped {
-            answer: Answer::Stretch {
-                start: f.start,
-                end: f.end,
-            },
+            answer: Answer::None,
             finder: self,
         }
     }
@@ -143,7 +281,8 @@ impl Finder {
 
 // Writes the answers from number `from` into the cells, start then end, as many as whole pairs fit. Refused: nothing is written.
 pub fn fill(text: &[u8], log: &[u8], cells: &mut [u32], from: usize) -> Filled
-    ensures { λ r. ⌜ FillGives (now (text .entry)) (now (log .entry)) from (now (cells .entry)) r (now (cells .exit)) ⌝ }
+    ensures { λ r. ⌜ r ≡ filling (now (text .entry)) (now (log .entry)) from (now (cells .entry)) ⌝ }
+    ensures { λ _. ⌜ now (cells .exit) ≡ filled (listOf (now (text .entry)) (now (log .entry))) from (now (cells .entry)) ⌝ }
 {
     let r = read_both(text, log);
     if r.number != 0 {
@@ -155,9 +294,7 @@ pub fn fill(text: &[u8], log: &[u8], cells: &mut [u32], from: usize) -> Filled
         };
     }
     let rows = r.rows;
-    let items = [0u32; 1];
-    let ends = [0u32; 1];
-    let w = seek::fill(&rows, log, &items[..0], &ends[..0], cells, from);
+    let w = fill_from(&rows, log, cells, 0, from);
     Filled {
         number: 0,
         place: 0,

@@ -8,18 +8,18 @@ use lib.ListN.{length, drop, length-take, length-drop}
 use lib.Dec.{eqb}
 use borrow.Author.Tests.{eqb-true}
 use native.Mathlib.Omega.{arith}
-use Rattle.stretches.specs.Stretch.{Stretch, Op, Or, And, Row, Then, Less, Max, answers}
+use Rattle.stretches.specs.Stretch.{Stretch, Op, Or, And, Row, Then, Keep, lengthOf, answers}
 use Rattle.stretches.specs.Front.{Front, None, At, nth}
 use Rattle.stretches.specs.Taking as algorithm
 use Rattle.stretches.specs.Taking.{begun, taking}
 use Rattle.stretches.proofs.Steps.{rising-length}
 use Rattle.stretches.proofs.Taking.{nth-in, or-taken, and-taken}
 use Rattle.meaning.specs.declared.Filled.{Filled}
-use Rattle.meaning.specs.Meaning.{apply}
-use Rattle.meaning.specs.Filling.{pairsIn, written}
+use Rattle.stretches.specs.Operators.{operatorOf, apply}
+use Rattle.stretches.specs.Filling.{pairsIn, written}
 use Rattle.meaning.specs.Finding.{filling}
-use Rattle.meaning.specs.Lent.{listsOf, operatorOf}
-use Rattle.meaning.proofs.Tree.{AllFine, fine-answers}
+use Rattle.stretches.specs.Lent.{listsOf}
+use Rattle.stretches.proofs.Fine.{AllFine, fine-answers}
 use Rattle.meaning.proofs.Bounds.{sized, few-written}
 use Rattle.meaning.specs.Refusals.{miscalled, mistaken, miscut, disordered, lowest, listsRefusal, takingRefusal}
 use Rattle.lists.specs.declared.Taken.{Taken}
@@ -63,19 +63,13 @@ pub lists-small : (op k : ℕ) (items ends cells : List ℕ) (f : ℕ) (r : Fill
 unfolding fillResult listsRefusal
 lists-small op k items ends cells f r e = go (eqb (lowest (miscalled op k ends) items ends) 0) refl e
   where
-    n : ℕ
-    n = lowest (miscalled op k ends) items ends
-
-    l : List Stretch
-    l = listAnswers op k items ends
-
     go : (b : Bool) → eqb (lowest (miscalled op k ends) items ends) 0 ≡ b → r ≡ cond b (walked (listAnswers op k items ends) cells f) (notFilled (lowest (miscalled op k ends) items ends))
         → (r .number ≤ 9) × (r .place ≤ 1024) × (r .count ≤ 65536)
     go true i x =
         let a = accepted (miscalled op k ends) items ends (eqb-true (lowest (miscalled op k ends) items ends) 0 i) in (
           omega (arith, ap (λ (y : Filled). y .number) x),
           omega (arith, ap (λ (y : Filled). y .place) x),
-          omega (arith, ap (λ (y : Filled). y .count) x, written-few (listAnswers op k items ends) f cells, answers-few (operatorOf op k) (listsOf items ends) (fine-lists (listsOf items ends) (a .order))),
+          omega (arith, ap (λ (y : Filled). y .count) x, written-few (listAnswers op k items ends) f cells, answers-few (operatorOf lengthOf op k) (listsOf items ends) (fine-lists (listsOf items ends) (a .order))),
         )
     go false i x = (
       omega (arith, ap (λ (y : Filled). y .number) x, lowest-small (miscalled op k ends) items ends),
@@ -106,8 +100,7 @@ taken-in o ls f p x e = by o e
     by And k = fits And (sym (and-taken ls (f .rising) (f .sound) p) ∙ k)
     by Row k = never (sym (idle ls (λ s. s) (λ s. refl) (taking Row ls) refl (λ p. refl) p) ∙ k)
     by Then k = never (sym (idle ls (λ s. s) (λ s. refl) (taking Then ls) refl (λ p. refl) p) ∙ k)
-    by Less k = never (sym (idle ls (λ s. s) (λ s. refl) (taking Less ls) refl (λ p. refl) p) ∙ k)
-    by (Max m b) k = never (sym (idle ls (λ s. s) (λ s. refl) (taking (Max m b) ls) refl (λ p. refl) p) ∙ k)
+    by (Keep f) k = never (sym (idle ls (λ s. s) (λ s. refl) (taking (Keep f) ls) refl (λ p. refl) p) ∙ k)
 
 taken-by : (o : Option Op) (ls : List (List Stretch)) → AllFine 65536 ls → (p : ℕ) (g : Front) → takenBy o ls p .answer ≡ g → (given g .start ≤ 65535) × (given g .end ≤ 65535)
 taken-by o ls f p None e = (omega arith, omega arith)
@@ -127,7 +120,7 @@ taking-small op items ends counts p r e = go (eqb (lowest (mistaken op ends coun
         → (r .number ≤ 9) × (r .start ≤ 65535) × (r .end ≤ 65535)
     go true i x =
         let a = accepted (mistaken op ends counts) items ends (eqb-true (lowest (mistaken op ends counts) items ends) 0 i) in
-        let h = taken-by (operatorOf op 0) (listsOf items ends) (fine-lists (listsOf items ends) (a .order)) p (takenOf op items ends p .answer) refl in (
+        let h = taken-by (operatorOf lengthOf op 0) (listsOf items ends) (fine-lists (listsOf items ends) (a .order)) p (takenOf op items ends p .answer) refl in (
           omega (arith, ap (λ (y : Taken). y .number) x, given-number (takenOf op items ends p .answer)),
           omega (arith, ap (λ (y : Taken). y .start) x, h .0),
           omega (arith, ap (λ (y : Taken). y .end) x, h .1),

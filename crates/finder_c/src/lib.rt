@@ -3,7 +3,7 @@ use lists::Taken;
 use meaning::Filled;
 ghost use mathlib.Core.Path.{_≡_};
 ghost use Prim.Native.Nat.{_≤_};
-ghost use Rattle.meaning.specs.Filling.{filled};
+ghost use Rattle.stretches.specs.Filling.{filled};
 ghost use Rattle.meaning.specs.Finding.{listOf, filling};
 ghost use Rattle.lists.specs.Filling.{fillResult, fillCells};
 ghost use Rattle.lists.specs.Taking.{takeResult, takeCells};

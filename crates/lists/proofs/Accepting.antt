@@ -11,8 +11,9 @@ use borrow.Author.Tests.{eq-eqb, ne-eqb, leb-true, ltb-false, not-false}
 use Rattle.stretches.specs.Taking as algorithm
 use Rattle.stretches.specs.Taking.{taking}
 use Rattle.basics.proofs.Basics.{and-true, or-false}
-use Rattle.pattern.specs.Rows.{symbol}
-use Rattle.meaning.specs.Lent.{listsOf, operatorOf}
+use Rattle.stretches.specs.Stretch.{lengthOf}
+use Rattle.stretches.specs.Operators.{operatorOf}
+use Rattle.stretches.specs.Lent.{listsOf}
 use Rattle.meaning.specs.Refusals.{takesLists, mistaken, miscut, disordered, lowest, takingRefusal}
 use Rattle.lists.specs.declared.queue.Item.{Item}
 use Rattle.lists.specs.declared.Taken.{Taken}
@@ -44,19 +45,18 @@ module _ (op : ℕ) (items ends counts : List ℕ) (p : ℕ) where
 
     pub take-refused : notTaken n ≡ takeResult op items ends counts p
     unfolding takeResult
-    take-refused = ap notTaken is ∙ sym (ap (λ b. cond b (given (takenBy (operatorOf op 0) (listsOf items ends) p .answer)) (notTaken (takingRefusal op items ends counts))) off)
+    take-refused = ap notTaken is ∙ sym (ap (λ b. cond b (given (takenBy (operatorOf lengthOf op 0) (listsOf items ends) p .answer)) (notTaken (takingRefusal op items ends counts))) off)
 
     pub take-kept : counts ≡ takeCells op items ends counts p
     unfolding takeCells
-    take-kept = sym (ap (λ b. cond b (takenBy (operatorOf op 0) (listsOf items ends) p .counts ++ drop (length ends) counts) counts) off)
+    take-kept = sym (ap (λ b. cond b (takenBy (operatorOf lengthOf op 0) (listsOf items ends) p .counts ++ drop (length ends) counts) counts) off)
 
   -- or or and, over lists in order, with a count cell for each
   pub record Takes : Type 0 where
     pub lent : Lent items ends counts
-    pub which : operatorOf op 0 ≡ some (opOf (eqb op 1))
+    pub which : operatorOf lengthOf op 0 ≡ some (opOf (eqb op 1))
 
-  two : (m : ℕ) → 1 ≤ m → m ≤ 2 → operatorOf m 0 ≡ some (opOf (eqb m 1))
-  unfolding symbol
+  two : (m : ℕ) → 1 ≤ m → m ≤ 2 → operatorOf lengthOf m 0 ≡ some (opOf (eqb m 1))
   two zero lo hi = absurd (omega arith)
   two (suc zero) lo hi = refl
   two (suc (suc zero)) lo hi = refl
@@ -80,21 +80,21 @@ module _ (op : ℕ) (items ends counts : List ℕ) (p : ℕ) where
 
     module _ (counts′ : List ℕ) (c : Item) (h : Handed (length ends) (taking (opOf (eqb op 1)) (listsOf items ends) p) counts counts′ c) where
       -- the algorithm's answer and counts
-      ran : takenBy (operatorOf op 0) (listsOf items ends) p ≡ handed (length ends) counts′ c
+      ran : takenBy (operatorOf lengthOf op 0) (listsOf items ends) p ≡ handed (length ends) counts′ c
       ran = ap (λ o. takenBy o (listsOf items ends) p) (takes .which) ∙ sym (h .is)
 
       pub take-given : (r : Taken) → r ≡ given (frontOf c) → r ≡ takeResult op items ends counts p
       unfolding takeResult
       take-given r e =
           e ∙ (ap (λ (s : algorithm.Taken). given (s .answer)) (sym ran)
-          ∙ sym (ap (λ b. cond b (given (takenBy (operatorOf op 0) (listsOf items ends) p .answer)) (notTaken (takingRefusal op items ends counts))) on))
+          ∙ sym (ap (λ b. cond b (given (takenBy (operatorOf lengthOf op 0) (listsOf items ends) p .answer)) (notTaken (takingRefusal op items ends counts))) on))
 
       pub take-counted : counts′ ≡ takeCells op items ends counts p
       unfolding takeCells
       take-counted =
           sym (take-append-drop (length ends) counts′)
           ∙ (ap₂ _++_ (ap (λ (s : algorithm.Taken). s .counts) (sym ran)) (h .rest)
-          ∙ sym (ap (λ b. cond b (takenBy (operatorOf op 0) (listsOf items ends) p .counts ++ drop (length ends) counts) counts) on))
+          ∙ sym (ap (λ b. cond b (takenBy (operatorOf lengthOf op 0) (listsOf items ends) p .counts ++ drop (length ends) counts) counts) on))
 
       pub take-found : c .found ≡ true → record { number = 0; found = true; start = c .start; end = c .end } ≡ given (frontOf c)
       take-found f = ap given (sym (front-at c f))

@@ -1,35 +1,35 @@
 -- The filling call over lent lists: a refused call changes nothing; in an accepted one the machine's promise over the laid table is the call's.
 -- What the refusals leave is what the machine asks of its source. Assumes nothing.
-use Prim.Native.Nat.{ℕ, zero, suc, _≤_, _<_}
+use Prim.Native.Nat.{ℕ, _≤_}
 use mathlib.Core.Path.{_≡_, sym, ap, ap₂, subst, _∙_}
 use mathlib.Core.Bool.{true, false, not, cond, _&&_, _||_}
-use mathlib.Core.List.{List, [], _∷_}
+use mathlib.Core.List.{List, []}
 use native.Mathlib.Omega.{arith}
 use lib.ListN.{length, getD}
 use lib.Dec.{leb, eqb}
-use borrow.Author.Tests.{eq-eqb, ne-eqb, leb-true, not-false}
+use borrow.Author.Tests.{eq-eqb, ne-eqb, eqb-true, leb-true, not-false}
 use Rattle.stretches.specs.Stretch.{Stretch}
-use Rattle.basics.proofs.Basics.{and-true, or-false}
-use Rattle.meaning.specs.Filling.{filled}
-use Rattle.meaning.specs.Lent.{listsOf}
-use Rattle.meaning.proofs.Tree.{Fine, AllFine}
+use Rattle.basics.proofs.Basics.{cases, and-true, or-false}
+use Rattle.stretches.specs.Filling.{filled}
+use Rattle.stretches.specs.Lent.{listsOf}
+use Rattle.stretches.proofs.Fine.{AllFine}
 use Rattle.meaning.specs.Refusals.{takesLists, takesBound, miscalled, listsRefusal}
-use Rattle.meaning.proofs.Lent.{lists-length}
+use Rattle.stretches.proofs.Steps.{onward-all}
 use Rattle.seek.specs.declared.Walked.{Walked}
-use Rattle.seek.specs.Source.{source, listTree, Good}
+use Rattle.seek.specs.Source.{source, listOf}
 use Rattle.seek.specs.Steps.{Filling, FillAll}
-use Rattle.seek.proofs.Sources.{good-lists}
+use Rattle.seek.proofs.Nodes.{fine}
 use Rattle.lists.specs.Filling.{listAnswers, walked, notFilled, fillResult, fillCells}
-use Rattle.lists.specs.Table.{symbolOf, Laid}
+use Rattle.lists.specs.Table.{Laid}
 use Rattle.lists.proofs.Ordering.{fine-lists}
 use Rattle.lists.proofs.Queues.{ends-inside}
-use Rattle.lists.proofs.Laying.{Ranked, ranked, laid-fits, laid-answers}
+use Rattle.lists.proofs.Laying.{laid-good, laid-answers}
 use Rattle.lists.proofs.Accepting.{accepted}
 
-fine-at : (n : ℕ) (ls : List (List Stretch)) → AllFine n ls → (k : ℕ) → k < length ls → Fine n (getD ls k [])
-fine-at n [] f k h = absurd (omega arith)
-fine-at n (l ∷ ls) f zero h = record { rising = f .rising .0; sound = f .sound .0; below = f .below .0 }
-fine-at n (l ∷ ls) f (suc k) h = fine-at n ls (record { rising = f .rising .1; sound = f .sound .1; below = f .below .1 }) k (omega arith)
+-- how many lists an operator that is not miscalled has
+few-lists : (op n : ℕ) → takesLists op n ≡ true → n ≤ 31
+few-lists op n h = cases (eqb op 5) (λ b. cond b (eqb n 2) (cond (eqb op 6) (eqb n 1) (leb 2 n && leb n 31)) ≡ true → n ≤ 31) (λ k e. omega (arith, eqb-true n 2 e))
+    (λ k. cases (eqb op 6) (λ b. cond b (eqb n 1) (leb 2 n && leb n 31) ≡ true → n ≤ 31) (λ k e. omega (arith, eqb-true n 1 e)) (λ k e. leb-true n 31 (and-true (leb 2 n) (leb n 31) e .1))) h
 
 module _ (op k : ℕ) (items ends cells : List ℕ) (f n : ℕ) (is : n ≡ listsRefusal op k items ends) where
   module _ (no : n ≡ 0 → ⊥) where
@@ -44,12 +44,13 @@ module _ (op k : ℕ) (items ends cells : List ℕ) (f n : ℕ) (is : n ≡ list
     unfolding fillCells
     fill-kept = sym (ap (λ b. cond b (filled (listAnswers op k items ends) f cells) cells) off)
 
-  -- an operator over as many lists as it takes, these in order
+  -- an operator over at most 31 lists, these in order and inside the items
   pub record Fills : Type 0 where
     pub low : 1 ≤ op
     pub high : op ≤ 6
-    pub rank : Ranked k (length ends) op
-    pub good : (log : List ℕ) → Good (source log items ends)
+    pub few : length ends ≤ 31
+    pub order : AllFine 65536 (listsOf items ends)
+    pub inside : (j : ℕ) → getD ends j 0 ≤ length items
 
   module _ (yes : n ≡ 0) where
     on : eqb (listsRefusal op k items ends) 0 ≡ true
@@ -62,23 +63,22 @@ module _ (op k : ℕ) (items ends cells : List ℕ) (f n : ℕ) (is : n ≡ list
         let u = or-false (not (leb 1 op && leb op 6)) (not (takesLists op (length ends)) || not (takesBound op k)) (a .called) in
         let v = and-true (leb 1 op) (leb op 6) (not-false (leb 1 op && leb op 6) (u .0)) in
         let w = or-false (not (takesLists op (length ends))) (not (takesBound op k)) (u .1) in
-        let lo = leb-true 1 op (v .0) in
-        let hi = leb-true op 6 (v .1) in
-        let r = ranked k (length ends) op lo hi (not-false (takesLists op (length ends)) (w .0)) in
-        let e = lists-length 0 items ends in
         record {
-          low = lo;
-          high = hi;
-          rank = r;
-          good = λ log. good-lists log items ends (λ z. omega (arith, r .some)) (λ j h. fine-at 65536 (listsOf items ends) (fine-lists (listsOf items ends) (a .order)) j (omega (arith, e))) (ends-inside items ends (a .cut));
+          low = leb-true 1 op (v .0);
+          high = leb-true op 6 (v .1);
+          few = few-lists op (length ends) (not-false (takesLists op (length ends)) (w .0));
+          order = fine-lists (listsOf items ends) (a .order);
+          inside = ends-inside items ends (a .cut);
         }
 
-    module _ (log rows cells′ : List ℕ) (w : Walked) (l : Laid op k (length ends) (length ends) rows) (h : FillAll rows (source log items ends) f cells w cells′) where
+    module _ (rows cells′ : List ℕ) (w : Walked) (l : Laid op k (length ends) ends (length ends) rows) (h : FillAll (source [] items) rows 0 f cells w cells′) where
       done : Filling (listAnswers op k items ends) f cells w cells′
       done =
           let g = fills in
-          subst (λ (xs : List Stretch). Filling xs f cells w cells′) (laid-answers op k log items ends (λ z. omega (arith, g .rank .some)) (g .low) (g .high))
-          (h .fills (listTree (symbolOf op k (length ends)) (length ends)) (g .good log) (laid-fits op k (length ends) rows l (g .low) (g .high) (g .rank)))
+          let good = laid-good op k items ends rows l (g .low) (g .high) (g .few) (g .inside) (g .order) in
+          subst (λ (xs : List Stretch). Filling xs f cells w cells′)
+          (onward-all (listOf (source [] items) rows 0) (fine (source [] items) rows good 0 (omega arith) .rising) ∙ laid-answers op k items ends rows l (g .low) (g .high) (g .few) (g .inside))
+          (h .fills good)
 
       pub fill-walked : record { number = 0; place = 0; count = w .count; more = w .more } ≡ fillResult op k items ends cells f
       unfolding fillResult

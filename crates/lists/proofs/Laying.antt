@@ -1,174 +1,199 @@
--- The rows of one operator over list leaves: the stores that lay them, the tree that then stands in them, and what it answers over the lent lists.
--- Three stores a turn, each read back by its place; the operator's number is taken case by case. Assumes nothing.
-use Prim.Native.Nat.{ℕ, zero, suc, _+_, _≤_, _<_}
-use mathlib.Core.Path.{_≡_, refl, sym, ap, subst, _∙_}
+-- The table of one operator over lent lists: the stores that lay it, and that node 0 then stands for the operator's answers over the lists.
+-- Three stores for the operator and four a turn, each read back by its place. Assumes nothing.
+use Prim.Native.Nat.{ℕ, zero, suc, _+_, _-_, _≤_, _<_}
+use mathlib.Core.Path.{_≡_, refl, sym, ap, ap₂, subst, _∙_}
 use mathlib.Core.Logic.{_⊎_, _≢_, inl, inr}
-use mathlib.Core.Bool.{true, _&&_}
-use mathlib.Core.List.{List}
+use mathlib.Core.Bool.{true, cond}
+use mathlib.Core.List.{List, [], _∷_}
 use native.Mathlib.Omega.{arith}
-use lib.ListN.{length, getD, set, replicate, length-set, length-replicate, getD-replicate}
+use lib.ListN.{length, getD, set, drop, replicate, length-set, length-replicate, getD-replicate, drop-of-length-le}
 use lib.Seq.{getD-set-same, getD-set-other}
-use lib.Dec.{leb}
-use borrow.Author.Tests.{leb-true, eqb-true}
-use Rattle.stretches.specs.Stretch.{lengthOf}
-use Rattle.stretches.specs.Stretch as operators
-use Rattle.basics.proofs.Basics.{le-or-lt, and-true}
-use Rattle.pattern.specs.Pattern.{Ev, Or, And, Row, Then, Less, Max}
-use Rattle.pattern.specs.Rows.{kindOf, firstOf, secondOf, Entry, symbol}
-use Rattle.meaning.specs.Meaning.{eval}
-use Rattle.meaning.specs.Refusals.{takesLists}
-use Rattle.seek.specs.Source.{source, valuation, listTree}
-use Rattle.seek.specs.Seek.{Arity, Fits}
-use Rattle.seek.proofs.Sources.{list-fits, list-stands, list-answers}
+use lib.Dec.{leb, eqb}
+use borrow.Author.Tests.{le-leb, ne-eqb}
+use Rattle.stretches.specs.Stretch.{Stretch, Fine, marks, lengthOf}
+use Rattle.stretches.specs.Operators.{operatorOf, apply}
+use Rattle.stretches.specs.Lent.{part, listsFrom, listsOf, startOf}
+use Rattle.stretches.specs.Table.{sizeAt, firstAt, secondAt, nextOf, stopOf, operandsFrom, operandsOf}
+use Rattle.stretches.proofs.Fine.{AllFine, fine-none}
+use Rattle.stretches.proofs.Lent.{lists-at}
+use Rattle.stretches.proofs.Table.{from-more, from-end, list-node}
+use Rattle.basics.proofs.Basics.{le-or-lt, open-at}
+use Rattle.marks.specs.Row.{row}
+use Rattle.seek.specs.Source.{source, lent, ownList, given, listOf, Good}
 use Rattle.lists.specs.Filling.{listAnswers}
-use Rattle.lists.specs.Table.{symbolOf, firstNumber, Laid}
+use Rattle.lists.specs.Table.{Laid}
 
 -- ── The stores ──
 
-module _ (rows : List ℕ) (a b c x y z : ℕ) (wide : length rows ≡ 128) where
-  abbrev three : List ℕ
-  three = set (set (set rows a x) b y) c z
+-- a store at place a is read back there, and nowhere else
+stored : (rows : List ℕ) (a x : ℕ) → length rows ≡ 128 → a < 128 → getD (set rows a x) a 0 ≡ x
+stored rows a x w h = getD-set-same rows a x 0 (omega arith)
 
-  three-wide : length three ≡ 128
-  three-wide = simp (length-set) wide
-
-  three-other : (j : ℕ) → j ≢ a → j ≢ b → j ≢ c → getD three j 0 ≡ getD rows j 0
-  three-other j p q r = getD-set-other (set (set rows a x) b y) c j z 0 r ∙ (getD-set-other (set rows a x) b j y 0 q ∙ getD-set-other rows a j x 0 p)
-
-  three-third : c < 128 → getD three c 0 ≡ z
-  three-third h = getD-set-same (set (set rows a x) b y) c z 0 (simp (length-set) (omega arith))
-
-  three-second : b < 128 → b ≢ c → getD three b 0 ≡ y
-  three-second h n = getD-set-other (set (set rows a x) b y) c b z 0 n ∙ getD-set-same (set rows a x) b y 0 (simp (length-set) (omega arith))
-
-  three-first : a < 128 → a ≢ b → a ≢ c → getD three a 0 ≡ x
-  three-first h n m = getD-set-other (set (set rows a x) b y) c a z 0 m ∙ (getD-set-other (set rows a x) b a y 0 n ∙ getD-set-same rows a x 0 (omega arith))
+set-wide : (rows : List ℕ) (a x : ℕ) → length rows ≡ 128 → length (set rows a x) ≡ 128
+set-wide rows a x w = simp length-set w
 
 -- the operator's node
-pub laid-root : (op k n f : ℕ) → f ≡ firstNumber op k n → Laid op k n 0 (set (set (set (replicate 128 0) 0 op) 32 (n + 1)) 64 f)
-laid-root op k n f is = record {
-  wide = three-wide zeros 0 32 64 op (n + 1) f w;
-  kind = three-first zeros 0 32 64 op (n + 1) f w (omega arith) (λ e. omega arith) (λ e. omega arith);
-  size = three-second zeros 0 32 64 op (n + 1) f w (omega arith) (λ e. omega arith);
-  first = three-third zeros 0 32 64 op (n + 1) f w (omega arith) ∙ is;
-  kinds = λ j h. absurd (omega arith);
-  sizes = λ j h. absurd (omega arith);
-  firsts = λ j h. absurd (omega arith);
-  seconds = λ j h. three-other zeros 0 32 64 op (n + 1) f w (96 + j) (λ e. omega arith) (λ e. omega arith) (λ e. omega arith) ∙ getD-replicate 128 (96 + j) 0 0 (omega arith);
-}
-  where
-    zeros : List ℕ
-    zeros = replicate 128 0
+pub laid-root : (op k n : ℕ) (ends : List ℕ) → Laid op k n ends 0 (set (set (set (replicate 128 0) 0 op) 32 (n + 1)) 64 k)
+laid-root op k n ends =
+    let z : List ℕ = replicate 128 0 in
+    let w : length (replicate {A = ℕ} 128 0) ≡ 128 = length-replicate {A = ℕ} 128 0 in
+    let w1 = set-wide (replicate 128 0) 0 op w in
+    let w2 = set-wide (set (replicate 128 0) 0 op) 32 (n + 1) w1 in
+    record {
+      wide = set-wide (set (set (replicate 128 0) 0 op) 32 (n + 1)) 64 k w2;
+      kind = getD-set-other (set (set (replicate 128 0) 0 op) 32 (n + 1)) 64 0 k 0 (λ e. omega arith) ∙ getD-set-other (set (replicate 128 0) 0 op) 32 0 (n + 1) 0 (λ e. omega arith)
+          ∙ stored (replicate 128 0) 0 op w (omega arith);
+      size = getD-set-other (set (set (replicate 128 0) 0 op) 32 (n + 1)) 64 32 k 0 (λ e. omega arith) ∙ stored (set (replicate 128 0) 0 op) 32 (n + 1) w1 (omega arith);
+      bound = stored (set (set (replicate 128 0) 0 op) 32 (n + 1)) 64 k w2 (omega arith);
+      kinds = λ j h. absurd (omega arith);
+      sizes = λ j h. absurd (omega arith);
+      froms = λ j h. absurd (omega arith);
+      tos = λ j h. absurd (omega arith);
+      others = λ v h l. getD-set-other (set (set (replicate 128 0) 0 op) 32 (n + 1)) 64 v k 0 (λ e. omega arith) ∙ getD-set-other (set (replicate 128 0) 0 op) 32 v (n + 1) 0 (λ e. omega arith)
+          ∙ getD-set-other (replicate 128 0) 0 v op 0 (λ e. omega arith) ∙ getD-replicate 128 v 0 0 (omega arith);
+    }
 
-    w : length zeros ≡ 128
-    w = length-replicate {A = ℕ} 128 0
+-- one list more
+module _ (op k n : ℕ) (ends : List ℕ) (i : ℕ) (rows : List ℕ) (lt : i < 31) (l : Laid op k n ends i rows) (a b : ℕ) (ea : a ≡ startOf ends i) (eb : b ≡ getD ends i 0) where
+  abbrev four : List ℕ
+  four = set (set (set (set rows (1 + i) 17) (33 + i) 1) (65 + i) a) (97 + i) b
 
--- one leaf more
-pub laid-leaf : (op k n i : ℕ) (rows : List ℕ) → i < 31 → Laid op k n i rows → Laid op k n (i + 1) (set (set (set rows (1 + i) 16) (33 + i) 1) (65 + i) i)
-laid-leaf op k n i rows lt l = record {
-  wide = three-wide rows (1 + i) (33 + i) (65 + i) 16 1 i (l .wide);
-  kind = kept 0 (λ e. omega arith) (λ e. omega arith) (λ e. omega arith) ∙ l .kind;
-  size = kept 32 (λ e. omega arith) (λ e. omega arith) (λ e. omega arith) ∙ l .size;
-  first = kept 64 (λ e. omega arith) (λ e. omega arith) (λ e. omega arith) ∙ l .first;
-  kinds = λ j h. kinds j (le-or-lt i j) h;
-  sizes = λ j h. sizes j (le-or-lt i j) h;
-  firsts = λ j h. firsts j (le-or-lt i j) h;
-  seconds = λ j h. kept (96 + j) (λ e. omega arith) (λ e. omega arith) (λ e. omega arith) ∙ l .seconds j h;
-}
-  where
-    after : List ℕ
-    after = set (set (set rows (1 + i) 16) (33 + i) 1) (65 + i) i
+  kept : (j : ℕ) → j ≢ 1 + i → j ≢ 33 + i → j ≢ 65 + i → j ≢ 97 + i → getD four j 0 ≡ getD rows j 0
+  kept j p q r s =
+      getD-set-other (set (set (set rows (1 + i) 17) (33 + i) 1) (65 + i) a) (97 + i) j b 0 s ∙ getD-set-other (set (set rows (1 + i) 17) (33 + i) 1) (65 + i) j a 0 r
+      ∙ getD-set-other (set rows (1 + i) 17) (33 + i) j 1 0 q ∙ getD-set-other rows (1 + i) j 17 0 p
 
-    kept : (j : ℕ) → j ≢ 1 + i → j ≢ 33 + i → j ≢ 65 + i → getD after j 0 ≡ getD rows j 0
-    kept j p q r = three-other rows (1 + i) (33 + i) (65 + i) 16 1 i (l .wide) j p q r
+  w1 : length (set rows (1 + i) 17) ≡ 128
+  w1 = set-wide rows (1 + i) 17 (l .wide)
 
-    kinds : (j : ℕ) → (i ≤ j) ⊎ (j < i) → j < i + 1 → getD after (1 + j) 0 ≡ 16
-    kinds j (inl g) h = let z : i ≡ j = omega arith in subst (λ (m : ℕ). getD after (1 + m) 0 ≡ 16) z (three-first rows (1 + i) (33 + i) (65 + i) 16 1 i (l .wide) (omega arith) (λ e. omega arith) (λ e. omega arith))
-    kinds j (inr g) h = kept (1 + j) (λ e. omega arith) (λ e. omega arith) (λ e. omega arith) ∙ l .kinds j g
+  w2 : length (set (set rows (1 + i) 17) (33 + i) 1) ≡ 128
+  w2 = set-wide (set rows (1 + i) 17) (33 + i) 1 w1
 
-    sizes : (j : ℕ) → (i ≤ j) ⊎ (j < i) → j < i + 1 → getD after (33 + j) 0 ≡ 1
-    sizes j (inl g) h = let z : i ≡ j = omega arith in subst (λ (m : ℕ). getD after (33 + m) 0 ≡ 1) z (three-second rows (1 + i) (33 + i) (65 + i) 16 1 i (l .wide) (omega arith) (λ e. omega arith))
-    sizes j (inr g) h = kept (33 + j) (λ e. omega arith) (λ e. omega arith) (λ e. omega arith) ∙ l .sizes j g
+  w3 : length (set (set (set rows (1 + i) 17) (33 + i) 1) (65 + i) a) ≡ 128
+  w3 = set-wide (set (set rows (1 + i) 17) (33 + i) 1) (65 + i) a w2
 
-    firsts : (j : ℕ) → (i ≤ j) ⊎ (j < i) → j < i + 1 → getD after (65 + j) 0 ≡ j
-    firsts j (inl g) h = let z : i ≡ j = omega arith in subst (λ (m : ℕ). getD after (65 + m) 0 ≡ m) z (three-third rows (1 + i) (33 + i) (65 + i) 16 1 i (l .wide) (omega arith))
-    firsts j (inr g) h = kept (65 + j) (λ e. omega arith) (λ e. omega arith) (λ e. omega arith) ∙ l .firsts j g
+  new-kind : getD four (1 + i) 0 ≡ 17
+  new-kind =
+      getD-set-other (set (set (set rows (1 + i) 17) (33 + i) 1) (65 + i) a) (97 + i) (1 + i) b 0 (λ e. omega arith) ∙ getD-set-other (set (set rows (1 + i) 17) (33 + i) 1) (65 + i) (1 + i) a 0 (λ e. omega arith)
+      ∙ getD-set-other (set rows (1 + i) 17) (33 + i) (1 + i) 1 0 (λ e. omega arith) ∙ stored rows (1 + i) 17 (l .wide) (omega arith)
 
--- ── The operator's number, case by case ──
+  new-size : getD four (33 + i) 0 ≡ 1
+  new-size =
+      getD-set-other (set (set (set rows (1 + i) 17) (33 + i) 1) (65 + i) a) (97 + i) (33 + i) b 0 (λ e. omega arith) ∙ getD-set-other (set (set rows (1 + i) 17) (33 + i) 1) (65 + i) (33 + i) a 0 (λ e. omega arith)
+      ∙ stored (set rows (1 + i) 17) (33 + i) 1 w1 (omega arith)
 
-six : (P : ℕ → Type 0) → P 1 → P 2 → P 3 → P 4 → P 5 → P 6 → (op : ℕ) → 1 ≤ op → op ≤ 6 → P op
-six P a b c d e f zero lo hi = absurd (omega arith)
-six P a b c d e f (suc zero) lo hi = a
-six P a b c d e f (suc (suc zero)) lo hi = b
-six P a b c d e f (suc (suc (suc zero))) lo hi = c
-six P a b c d e f (suc (suc (suc (suc zero)))) lo hi = d
-six P a b c d e f (suc (suc (suc (suc (suc zero))))) lo hi = e
-six P a b c d e f (suc (suc (suc (suc (suc (suc zero)))))) lo hi = f
-six P a b c d e f (suc (suc (suc (suc (suc (suc (suc n))))))) lo hi = absurd (omega arith)
+  new-from : getD four (65 + i) 0 ≡ a
+  new-from = getD-set-other (set (set (set rows (1 + i) 17) (33 + i) 1) (65 + i) a) (97 + i) (65 + i) b 0 (λ e. omega arith) ∙ stored (set (set rows (1 + i) 17) (33 + i) 1) (65 + i) a w2 (omega arith)
 
--- what the operator's symbol says in a table
-abbrev Symbolic : ℕ → ℕ → ℕ → Type 0
-Symbolic k n op = (kindOf (symbolOf op k n) ≡ op) × (firstOf (symbolOf op k n) ≡ firstNumber op k n) × (secondOf (symbolOf op k n) ≡ 0)
+  new-to : getD four (97 + i) 0 ≡ b
+  new-to = stored (set (set (set rows (1 + i) 17) (33 + i) 1) (65 + i) a) (97 + i) b w3 (omega arith)
 
-symbolic : (k n op : ℕ) → 1 ≤ op → op ≤ 6 → Symbolic k n op
-unfolding symbol
-symbolic k n = six (Symbolic k n) (refl, refl, refl) (refl, refl, refl) (refl, refl, refl) (refl, refl, refl) (refl, refl, refl) (refl, refl, refl)
+  -- a column holds for one list more
+  column : (c : ℕ) (f : ℕ → ℕ) → (c ≡ 0) ⊎ ((c ≡ 32) ⊎ ((c ≡ 64) ⊎ (c ≡ 96))) → getD four (c + (1 + i)) 0 ≡ f i → ((j : ℕ) → j < i → getD rows (c + (1 + j)) 0 ≡ f j)
+      → (j : ℕ) → j < i + 1 → getD four (c + (1 + j)) 0 ≡ f j
+  column c f which new old j h = go (le-or-lt i j)
+    where
+      go : (i ≤ j) ⊎ (j < i) → getD four (c + (1 + j)) 0 ≡ f j
+      go (inl g) = let z : i ≡ j = omega arith in subst (λ (m : ℕ). getD four (c + (1 + m)) 0 ≡ f m) z new
+      go (inr g) = by which ∙ old j g
+        where
+          by : (c ≡ 0) ⊎ ((c ≡ 32) ⊎ ((c ≡ 64) ⊎ (c ≡ 96))) → getD four (c + (1 + j)) 0 ≡ getD rows (c + (1 + j)) 0
+          by (inl e) = kept (c + (1 + j)) (λ z. omega arith) (λ z. omega arith) (λ z. omega arith) (λ z. omega arith)
+          by (inr (inl e)) = kept (c + (1 + j)) (λ z. omega arith) (λ z. omega arith) (λ z. omega arith) (λ z. omega arith)
+          by (inr (inr (inl e))) = kept (c + (1 + j)) (λ z. omega arith) (λ z. omega arith) (λ z. omega arith) (λ z. omega arith)
+          by (inr (inr (inr e))) = kept (c + (1 + j)) (λ z. omega arith) (λ z. omega arith) (λ z. omega arith) (λ z. omega arith)
 
--- how many lists an operator that is not miscalled has
-pub record Ranked (k n op : ℕ) : Type 0 where
-  pub some : 1 ≤ n
-  pub few : n ≤ 31
-  pub arity : Arity (symbolOf op k n) n
+  at : (c d : ℕ) → c + (1 + i) ≡ d → (x : ℕ) → getD four d 0 ≡ x → getD four (c + (1 + i)) 0 ≡ x
+  at c d e x h = ap (λ (j : ℕ). getD four j 0) e ∙ h
 
-many : (n : ℕ) → leb 2 n && leb n 31 ≡ true → (1 ≤ n) × (n ≤ 31)
-many n h = let p = and-true (leb 2 n) (leb n 31) h in (omega (arith, leb-true 2 n (p .0)), leb-true n 31 (p .1))
+  pub laid-list : Laid op k n ends (i + 1) four
+  laid-list = record {
+    wide = set-wide (set (set (set rows (1 + i) 17) (33 + i) 1) (65 + i) a) (97 + i) b w3;
+    kind = kept 0 (λ e. omega arith) (λ e. omega arith) (λ e. omega arith) (λ e. omega arith) ∙ l .kind;
+    size = kept 32 (λ e. omega arith) (λ e. omega arith) (λ e. omega arith) (λ e. omega arith) ∙ l .size;
+    bound = kept 64 (λ e. omega arith) (λ e. omega arith) (λ e. omega arith) (λ e. omega arith) ∙ l .bound;
+    kinds = λ j h. let z : 0 + (1 + j) ≡ 1 + j = omega arith in subst (λ (m : ℕ). getD four m 0 ≡ 17) z (column 0 (λ j. 17) (inl refl) (at 0 (1 + i) (omega arith) 17 new-kind)
+        (λ j h. let z : 0 + (1 + j) ≡ 1 + j = omega arith in ap (λ (m : ℕ). getD rows m 0) z ∙ l .kinds j h) j h);
+    sizes = column 32 (λ j. 1) (inr (inl refl)) (at 32 (33 + i) (omega arith) 1 new-size) (l .sizes);
+    froms = column 64 (startOf ends) (inr (inr (inl refl))) (at 64 (65 + i) (omega arith) (startOf ends i) (new-from ∙ ea)) (l .froms);
+    tos = column 96 (λ j. getD ends j 0) (inr (inr (inr refl))) (at 96 (97 + i) (omega arith) (getD ends i 0) (new-to ∙ eb)) (l .tos);
+    others = λ v h g. kept v (λ e. omega arith) (λ e. omega arith) (λ e. omega arith) (λ e. omega arith) ∙ l .others v (omega arith) g;
+  }
 
-pub ranked : (k n op : ℕ) → 1 ≤ op → op ≤ 6 → takesLists op n ≡ true → Ranked k n op
-unfolding symbol
-ranked k n op lo hi =
-    six (λ op. takesLists op n ≡ true → Ranked k n op)
-    (λ h. let m = many n h in record { some = m .0; few = m .1; arity = tt })
-    (λ h. let m = many n h in record { some = m .0; few = m .1; arity = m .0 })
-    (λ h. let m = many n h in record { some = m .0; few = m .1; arity = m .0 })
-    (λ h. let m = many n h in record { some = m .0; few = m .1; arity = m .0 })
-    (λ h. record { some = omega (arith, eqb-true n 2 h); few = omega (arith, eqb-true n 2 h); arity = eqb-true n 2 h })
-    (λ h. record { some = omega (arith, eqb-true n 1 h); few = omega (arith, eqb-true n 1 h); arity = eqb-true n 1 h })
-    op lo hi
+-- the next list starts where this one ends
+pub start-next : (ends : List ℕ) (i : ℕ) → getD ends i 0 ≡ startOf ends (i + 1)
+start-next ends i = let z : suc i ≡ i + 1 = omega arith in ap (startOf ends) z
 
--- ── The tree in the rows ──
+-- ── What the table stands for ──
 
-module _ (op k n : ℕ) (rows : List ℕ) (l : Laid op k n n rows) where
-  leaf-stands : n ≤ 31 → (j : ℕ) → j < n → Entry rows (j + 1) (Ev j 0) 1
-  leaf-stands few j h =
-      let a : j + 1 ≡ 1 + j = omega arith in
-      let b : 32 + (j + 1) ≡ 33 + j = omega arith in
-      let c : 64 + (j + 1) ≡ 65 + j = omega arith in
-      record {
-        kind = ap (λ (i : ℕ). getD rows i 0) a ∙ l .kinds j h;
-        size = ap (λ (i : ℕ). getD rows i 0) b ∙ l .sizes j h;
-        first = ap (λ (i : ℕ). getD rows i 0) c ∙ l .firsts j h;
-        second = l .seconds (j + 1) (omega arith);
-      }
+module _ (op k : ℕ) (items ends rows : List ℕ) (l : Laid op k (length ends) ends (length ends) rows) (lo : 1 ≤ op) (hi : op ≤ 6) (few : length ends ≤ 31)
+    (inside : (j : ℕ) → getD ends j 0 ≤ length items) where
+  -- list j stands at node 1 + j
+  own-list : (j : ℕ) → j < length ends → given (source [] items) rows .own (1 + j) ≡ getD (listsOf items ends) j []
+  own-list j h =
+      ap (λ (x : ℕ). ownList (source [] items) x (firstAt rows (1 + j)) (secondAt rows (1 + j))) (l .kinds j h)
+      ∙ ap₂ (λ (x y : ℕ). lent items x y) (l .froms j h) (l .tos j h)
+      ∙ ap (λ b. cond b (part items (startOf ends j) (getD ends j 0)) []) (le-leb (getD ends j 0) (length items) (inside j)) ∙ sym (lists-at items ends j)
 
-  -- the operator over its list leaves stands in the rows, and fits
-  pub laid-fits : 1 ≤ op → op ≤ 6 → Ranked k n op → Fits rows 0 (listTree (symbolOf op k n) n) 8
-  laid-fits lo hi r =
-      let s = symbolic k n op lo hi in
-      list-fits rows (symbolOf op k n) n (r .arity) (r .few)
-      (list-stands rows (symbolOf op k n) n
-      (record { kind = l .kind ∙ sym (s .0); size = l .size; first = l .first ∙ sym (s .1); second = l .seconds 0 (omega arith) ∙ sym (s .2) })
-      (leaf-stands (r .few)))
+  own-root : given (source [] items) rows .own 0 ≡ []
+  own-root =
+      ap (λ (x : ℕ). ownList (source [] items) x (firstAt rows 0) (secondAt rows 0)) (l .kind)
+      ∙ ap (λ b. cond b (marks 0 (row [] (firstAt rows 0) (secondAt rows 0))) (cond (eqb op 17) (lent items (firstAt rows 0) (secondAt rows 0)) [])) (ne-eqb op 16 (λ e. omega arith))
+      ∙ ap (λ b. cond b (lent items (firstAt rows 0) (secondAt rows 0)) []) (ne-eqb op 17 (λ e. omega arith))
 
--- its list is the operator's answers over the lent lists
-pub laid-answers : (op k : ℕ) (log items ends : List ℕ) → (length ends ≡ 0 → ⊥) → 1 ≤ op → op ≤ 6
-    → eval (valuation (source log items ends)) (listTree (symbolOf op k (length ends)) (length ends)) ≡ listAnswers op k items ends
-unfolding symbol
-laid-answers op k log items ends there lo hi =
-    six (λ op. eval (valuation (source log items ends)) (listTree (symbolOf op k (length ends)) (length ends)) ≡ listAnswers op k items ends)
-    (list-answers log items ends there (Or (length ends)) operators.Or refl)
-    (list-answers log items ends there (And (length ends)) operators.And refl)
-    (list-answers log items ends there (Row (length ends)) operators.Row refl)
-    (list-answers log items ends there (Then (length ends)) operators.Then refl)
-    (list-answers log items ends there Less operators.Less refl)
-    (list-answers log items ends there (Max k) (operators.Max lengthOf k) refl)
-    op lo hi
+  own-other : (v : ℕ) → length ends < v → v < 32 → given (source [] items) rows .own v ≡ []
+  own-other v h g = ap (λ (x : ℕ). ownList (source [] items) x (firstAt rows v) (secondAt rows v)) (l .others v h g)
+
+  fine-at : (ls : List (List Stretch)) → AllFine 65536 ls → (j : ℕ) → Fine 65536 (getD ls j [])
+  fine-at [] f j = fine-none 65536
+  fine-at (m ∷ ls) f zero = record { rising = f .rising .0; sound = f .sound .0; below = f .below .0 }
+  fine-at (m ∷ ls) f (suc j) = fine-at ls (record { rising = f .rising .1; sound = f .sound .1; below = f .below .1 }) j
+
+  -- lists in order are good
+  pub laid-good : AllFine 65536 (listsOf items ends) → Good (source [] items) rows
+  laid-good f v h = go v h (le-or-lt v (length ends))
+    where
+      go : (v : ℕ) → v < 32 → (v ≤ length ends) ⊎ (length ends < v) → Fine 65536 (given (source [] items) rows .own v)
+      go zero h w = subst (Fine 65536) (sym own-root) (fine-none 65536)
+      go (suc j) h (inl g) =
+          let z : 1 + j ≡ suc j = omega arith in
+          subst (λ (m : ℕ). Fine 65536 (given (source [] items) rows .own m)) z (subst (Fine 65536) (sym (own-list j (omega arith))) (fine-at (listsOf items ends) f j))
+      go (suc j) h (inr g) = subst (Fine 65536) (sym (own-other (suc j) g h)) (fine-none 65536)
+
+  stop-is : stopOf rows 0 ≡ length ends + 1
+  unfolding stopOf
+  stop-is =
+      let e : leb (sizeAt rows 0) (32 - 0) ≡ true = le-leb (sizeAt rows 0) (32 - 0) (omega (arith, l .size)) in
+      ap (λ b. cond b (0 + sizeAt rows 0) 32) e ∙ omega (arith, l .size)
+
+  next-is : (j : ℕ) → j < length ends → nextOf rows (1 + j) ≡ 1 + (j + 1)
+  unfolding nextOf
+  next-is j h =
+      let a = ne-eqb (sizeAt rows (1 + j)) 0 (λ e. omega (arith, l .sizes j h)) in
+      let b : leb (sizeAt rows (1 + j)) (32 - (1 + j)) ≡ true = le-leb (sizeAt rows (1 + j)) (32 - (1 + j)) (omega (arith, l .sizes j h)) in
+      ap₂ (λ x y. cond x (1 + j + 1) (cond y (1 + j + sizeAt rows (1 + j)) 32)) a b ∙ omega (arith, l .sizes j h)
+
+  leaf-list : (j : ℕ) → j < length ends → listOf (source [] items) rows (1 + j) ≡ part items (startOf ends j) (getD ends j 0)
+  leaf-list j h =
+      list-node (given (source [] items) rows) rows (1 + j) (omega arith)
+      ∙ ap (λ (x : ℕ). apply (operatorOf lengthOf x (firstAt rows (1 + j))) (given (source [] items) rows .own (1 + j)) (operandsOf (given (source [] items) rows) rows (1 + j))) (l .kinds j h)
+      ∙ own-list j h ∙ lists-at items ends j
+
+  -- the operands are the lists, from list j on
+  leaves : (n j : ℕ) → j + n ≡ length ends → operandsFrom (given (source [] items) rows) rows (length ends + 1) (1 + j) ≡ listsFrom (startOf ends j) items (drop j ends)
+  leaves zero j e =
+      from-end (given (source [] items) rows) rows (length ends + 1) (1 + j) (omega arith) ∙ sym (ap (listsFrom (startOf ends j) items) (drop-of-length-le ends {i = j} (omega arith)))
+  leaves (suc n) j e =
+      from-more (given (source [] items) rows) rows (length ends + 1) (1 + j) (omega arith) (omega arith)
+      ∙ ap₂ (λ (a : List Stretch) (b : List (List Stretch)). a ∷ b) (leaf-list j (omega arith))
+      (ap (operandsFrom (given (source [] items) rows) rows (length ends + 1)) (next-is j (omega arith)) ∙ leaves n (j + 1) (omega arith) ∙ ap (λ (x : ℕ). listsFrom x items (drop (j + 1) ends)) (sym (start-next ends j)))
+      ∙ sym (ap (listsFrom (startOf ends j) items) (open-at ends j (omega arith)))
+
+  -- its list is the operator's answers over the lent lists
+  pub laid-answers : listOf (source [] items) rows 0 ≡ listAnswers op k items ends
+  laid-answers =
+      let z : 0 + 1 ≡ 1 + 0 = omega arith in
+      list-node (given (source [] items) rows) rows 0 (omega arith)
+      ∙ ap₂ (λ (x y : ℕ). apply (operatorOf lengthOf x y) (given (source [] items) rows .own 0) (operandsOf (given (source [] items) rows) rows 0)) (l .kind) (l .bound)
+      ∙ ap₂ (λ (x : List Stretch) (y : List (List Stretch)). apply (operatorOf lengthOf op k) x y) own-root
+      (ap₂ (operandsFrom (given (source [] items) rows) rows) stop-is z ∙ leaves (length ends) 0 (omega arith))

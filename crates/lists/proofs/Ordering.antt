@@ -9,14 +9,14 @@ use native.Mathlib.Omega.{arith}
 use lib.ListN.{length, getD, drop, drop-of-length-le}
 use lib.Dec.{ltb, leb, leb·suc-suc}
 use borrow.Author.Tests.{lt-ltb, le-ltb, ltb-false}
-use Rattle.stretches.specs.Stretch.{Stretch, st, In}
+use Rattle.stretches.specs.Stretch.{Stretch, st, In, Fine}
 use Rattle.stretches.proofs.Answers.{Sound}
 use Rattle.stretches.proofs.Cut.{Below}
 use Rattle.basics.proofs.Basics.{or-left, or-right, or-false, open-at}
-use Rattle.meaning.specs.Lent.{listsFrom, part}
-use Rattle.meaning.proofs.Tree.{Fine, AllFine}
+use Rattle.stretches.specs.Lent.{listsFrom, part}
+use Rattle.stretches.proofs.Fine.{AllFine, fine-none, all-none, all-more}
 use Rattle.meaning.specs.Refusals.{spoiled, disorderedAfter, disorderedList, disordered}
-use Rattle.meaning.proofs.Lent.{part-cons, part-nil}
+use Rattle.stretches.proofs.Lent.{part-cons, part-nil}
 
 -- ── One list ──
 
@@ -112,7 +112,7 @@ record Standing (a b : ℕ) (l : List Stretch) : Type 0 where
   past : (s e : ℕ) → In s e l → (a ≤ s) × (b ≤ e)
 
 standing : (a b : ℕ) (l : List Stretch) → unrisen a b l ≡ false → Standing a b l
-standing a b [] h = record { fine = record { rising = tt; sound = λ s e m. absurd m; below = λ s e m. absurd m }; past = λ s e m. absurd m }
+standing a b [] h = record { fine = fine-none 65536; past = λ s e m. absurd m }
 standing a b (y ∷ l) h = go (first a b y l h) (standing (suc (y .start)) (suc (y .end)) l (first a b y l h .rest))
   where
     go : First a b y l → Standing (suc (y .start)) (suc (y .end)) l → Standing a b (y ∷ l)
@@ -141,9 +141,5 @@ pub fine-list : (l : List Stretch) → disorderedList l ≡ false → Fine 65536
 fine-list l h = standing 0 0 l (sym (list-unrisen l) ∙ h) .fine
 
 pub fine-lists : (ls : List (List Stretch)) → disordered ls ≡ false → AllFine 65536 ls
-fine-lists [] h = record { rising = tt; sound = tt; below = tt }
-fine-lists (l ∷ ls) h =
-    let p = or-false (disorderedList l) (disordered ls) h in
-    let f = fine-list l (p .0) in
-    let g = fine-lists ls (p .1) in
-    record { rising = (f .rising, g .rising); sound = (f .sound, g .sound); below = (f .below, g .below) }
+fine-lists [] h = all-none 65536
+fine-lists (l ∷ ls) h = let p = or-false (disorderedList l) (disordered ls) h in all-more (fine-list l (p .0)) (fine-lists ls (p .1))

@@ -12,11 +12,11 @@ use borrow.Author.Tests.{lt-ltb, le-ltb, eq-eqb, ne-eqb}
 use Rattle.stretches.specs.Stretch.{Stretch, st}
 use Rattle.basics.proofs.Basics.{le-or-lt}
 use Rattle.stretches.specs.Front.{None, At, nth}
-use Rattle.meaning.specs.Lent.{listsOf}
+use Rattle.stretches.specs.Lent.{listsOf}
 use Rattle.meaning.specs.Refusals.{miscutFrom, miscut}
-use Rattle.meaning.proofs.Lent.{part-cons, part-nil, lists-at}
-use Rattle.meaning.specs.Lent.{part}
-use Rattle.meaning.specs.Lent.{startOf}
+use Rattle.stretches.proofs.Lent.{part-cons, part-nil, lists-at}
+use Rattle.stretches.specs.Lent.{part}
+use Rattle.stretches.specs.Lent.{startOf}
 use Rattle.lists.proofs.Cutting.{right-first}
 
 -- ── The lists by their places ──

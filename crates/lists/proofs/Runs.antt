@@ -11,9 +11,9 @@ use Rattle.stretches.specs.Stretch.{Stretch, st, answers}
 use Rattle.stretches.specs.Front.{Front, None, nth}
 use Rattle.stretches.specs.Taking.{Taken, total, skip, shrink, orHand, andHand, andFrom, next, taking}
 use Rattle.stretches.proofs.Taking.{or-taken, or-stays, and-taken, and-stays, nth-none}
-use Rattle.meaning.specs.Lent.{listsOf}
-use Rattle.meaning.proofs.Tree.{AllFine}
-use Rattle.meaning.proofs.Lent.{lists-length}
+use Rattle.stretches.specs.Lent.{listsOf}
+use Rattle.stretches.proofs.Fine.{AllFine}
+use Rattle.stretches.proofs.Lent.{lists-length}
 use Rattle.lists.specs.declared.queue.Item.{Item}
 use Rattle.lists.specs.Queue.{frontOf, orderOf, viewOf, opOf, Lent, queue, handed, Moved, Handed}
 use Rattle.lists.proofs.Ordering.{fine-lists}

@@ -11,9 +11,9 @@ use Rattle.stretches.specs.Stretch.{Stretch, st}
 use Rattle.stretches.specs.Front.{Front, None, At, nth}
 use Rattle.stretches.specs.Taking.{Order, fronts, leads, top, topIndex, join, span, oneMore, advance}
 use Rattle.stretches.proofs.Steps.{rising-length}
-use Rattle.meaning.specs.Lent.{listsOf}
-use Rattle.meaning.proofs.Tree.{AllFine}
-use Rattle.meaning.proofs.Lent.{lists-length}
+use Rattle.stretches.specs.Lent.{listsOf}
+use Rattle.stretches.proofs.Fine.{AllFine}
+use Rattle.stretches.proofs.Lent.{lists-length}
 use Rattle.lists.specs.declared.queue.Item.{Item}
 use Rattle.lists.specs.declared.queue.Top.{Top}
 use Rattle.lists.specs.Queue.{frontOf, orderOf, Lent, queue, betterOf, Topped, Moved}

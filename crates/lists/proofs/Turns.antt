@@ -9,10 +9,10 @@ use lib.ListN.{length, take, drop, length-drop}
 use lib.Seq.{length-take-le}
 use lib.Dec.{eqb}
 use borrow.Author.Tests.{eq-eqb, ne-eqb, eqb-true, not-false}
-use Rattle.stretches.specs.Stretch.{Stretch, st, inside}
+use Rattle.stretches.specs.Stretch.{Stretch, st}
 use Rattle.stretches.specs.Front.{Front, None, At}
 use Rattle.stretches.specs.Taking.{Taken, Order, fronts, top, span, contains, advance, startsFirst, total, skip, isTop, again, shrink}
-use Rattle.meaning.specs.Lent.{pairs, listsFrom, listsOf}
+use Rattle.stretches.specs.Lent.{pairs, listsFrom, listsOf}
 use Rattle.meaning.specs.Refusals.{miscutFrom, miscut}
 use Rattle.lists.specs.declared.queue.Item.{Item}
 use Rattle.lists.specs.Queue.{frontOf, orderOf, viewOf, Lent, queue, Moved, Handed}

@@ -5,16 +5,16 @@ use mathlib.Core.Bool.{false, cond}
 use mathlib.Core.List.{List, []}
 use lib.ListN.{length}
 use lib.Dec.{eqb}
-use Rattle.stretches.specs.Stretch.{Stretch}
+use Rattle.stretches.specs.Stretch.{Stretch, lengthOf}
 use Rattle.meaning.specs.declared.Filled.{Filled}
-use Rattle.meaning.specs.Meaning.{apply}
-use Rattle.meaning.specs.Filling.{written, filled, moreAfter}
-use Rattle.meaning.specs.Lent.{listsOf, operatorOf}
+use Rattle.stretches.specs.Operators.{operatorOf, apply}
+use Rattle.stretches.specs.Filling.{written, filled, moreAfter}
+use Rattle.stretches.specs.Lent.{listsOf}
 use Rattle.meaning.specs.Refusals.{listsRefusal}
 
 -- the operator's answers over the lent lists
 abbrev pub listAnswers : ℕ → ℕ → List ℕ → List ℕ → List Stretch
-listAnswers op k items ends = apply (operatorOf op k) [] (listsOf items ends)
+listAnswers op k items ends = apply (operatorOf lengthOf op k) [] (listsOf items ends)
 
 -- the number of stretches written of the list, and "more" or "done"
 abbrev pub walked : List Stretch → List ℕ → ℕ → Filled

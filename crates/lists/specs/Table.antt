@@ -1,28 +1,19 @@
--- One operator over list leaves, as a symbol and as a table: what the contracts of private functions cite. Assumes nothing.
+-- The table of one operator over lent lists: what the contract of a private function cites. Assumes nothing.
 use Prim.Native.Nat.{ℕ, _+_, _<_}
 use mathlib.Core.Path.{_≡_}
-use mathlib.Core.Bool.{cond}
 use mathlib.Core.List.{List}
 use lib.ListN.{length, getD}
-use lib.Dec.{eqb}
-use Rattle.pattern.specs.Pattern.{Symbol}
-use Rattle.pattern.specs.Rows.{symbol}
+use Rattle.stretches.specs.Lent.{startOf}
+use Rattle.stretches.specs.Table.{kindAt, sizeAt, firstAt, secondAt}
 
--- the first number of an operator's node: k, the number of its operands, or 0
-abbrev pub firstNumber : ℕ → ℕ → ℕ → ℕ
-firstNumber op k n = cond (eqb op 5) 0 (cond (eqb op 6) k n)
-
--- the symbol of an operator's number, with k and the number of its operands
-abbrev pub symbolOf : ℕ → ℕ → ℕ → Symbol
-symbolOf op k n = symbol op (firstNumber op k n) 0
-
--- the operator's node and the first i leaves stand in the rows
-pub record Laid (op k n i : ℕ) (rows : List ℕ) : Type 0 where
+-- the operator stands at node 0 over n lists, and the first i lists, each a leaf by its places, behind it; the other nodes are of no kind
+pub record Laid (op k n : ℕ) (ends : List ℕ) (i : ℕ) (rows : List ℕ) : Type 0 where
   pub wide : length rows ≡ 128
-  pub kind : getD rows 0 0 ≡ op
-  pub size : getD rows 32 0 ≡ n + 1
-  pub first : getD rows 64 0 ≡ firstNumber op k n
-  pub kinds : (j : ℕ) → j < i → getD rows (1 + j) 0 ≡ 16
-  pub sizes : (j : ℕ) → j < i → getD rows (33 + j) 0 ≡ 1
-  pub firsts : (j : ℕ) → j < i → getD rows (65 + j) 0 ≡ j
-  pub seconds : (j : ℕ) → j < 32 → getD rows (96 + j) 0 ≡ 0
+  pub kind : kindAt rows 0 ≡ op
+  pub size : sizeAt rows 0 ≡ n + 1
+  pub bound : firstAt rows 0 ≡ k
+  pub kinds : (j : ℕ) → j < i → kindAt rows (1 + j) ≡ 17
+  pub sizes : (j : ℕ) → j < i → sizeAt rows (1 + j) ≡ 1
+  pub froms : (j : ℕ) → j < i → firstAt rows (1 + j) ≡ startOf ends j
+  pub tos : (j : ℕ) → j < i → secondAt rows (1 + j) ≡ getD ends j 0
+  pub others : (v : ℕ) → i < v → v < 32 → kindAt rows v ≡ 0

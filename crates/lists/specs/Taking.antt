@@ -6,11 +6,12 @@ use mathlib.Core.List.{List, _++_}
 use mathlib.Core.Option.{Option, none, some}
 use lib.ListN.{length, drop}
 use lib.Dec.{eqb}
-use Rattle.stretches.specs.Stretch.{Stretch, Op}
+use Rattle.stretches.specs.Stretch.{Stretch, Op, lengthOf}
+use Rattle.stretches.specs.Operators.{operatorOf}
 use Rattle.stretches.specs.Front.{Front, None, At}
 use Rattle.stretches.specs.Taking as algorithm
 use Rattle.stretches.specs.Taking.{begun, taking}
-use Rattle.meaning.specs.Lent.{listsOf, operatorOf}
+use Rattle.stretches.specs.Lent.{listsOf}
 use Rattle.meaning.specs.Refusals.{takingRefusal}
 use Rattle.lists.specs.declared.Taken.{Taken}
 
@@ -20,7 +21,7 @@ takenBy none ls p = begun ls
 takenBy (some o) ls p = taking o ls p
 
 abbrev pub takenOf : ℕ → List ℕ → List ℕ → ℕ → algorithm.Taken
-takenOf op items ends p = takenBy (operatorOf op 0) (listsOf items ends) p
+takenOf op items ends p = takenBy (operatorOf lengthOf op 0) (listsOf items ends) p
 
 -- an answer, or "none"
 abbrev pub given : Front → Taken

@@ -1,12 +1,12 @@
 // The queue of document 001's Algorithms 1 to 3 over lent lists, of each of which only the number of items taken is kept.
 use crate::refusals::wide;
 ghost use mathlib.Core.Path.{_≡_};
-ghost use Prim.Native.Nat.{_+_, _-_, _<_, min, max};
+ghost use Prim.Native.Nat.{_-_, _<_, min, max};
 ghost use mathlib.Core.List.{[]};
 ghost use lib.ListN.{length, take, getD};
 ghost use Rattle.stretches.specs.Front.{None, nth};
 ghost use Rattle.stretches.specs.Taking.{leads, join, span, contains, advance};
-ghost use Rattle.meaning.specs.Lent.{listsOf, startOf};
+ghost use Rattle.stretches.specs.Lent.{listsOf, startOf};
 ghost use Rattle.lists.specs.Queue.{frontOf, orderOf, Lent, queue, betterOf, Topped, Moved};
 
 // The item of a list that was taken last; not found: its end mark.

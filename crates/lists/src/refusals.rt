@@ -1,9 +1,9 @@
 // When a call over lent lists is refused: 6 miscalled, 7 miscut, 8 disordered.
 ghost use mathlib.Core.Path.{_≡_};
 ghost use mathlib.Core.Bool.{false};
-ghost use Prim.Native.Nat.{_+_, _-_, _≤_, _<_};
+ghost use Prim.Native.Nat.{_-_, _≤_, _<_};
 ghost use lib.ListN.{length, take, drop};
-ghost use Rattle.meaning.specs.Lent.{pairs, listsOf};
+ghost use Rattle.stretches.specs.Lent.{pairs, listsOf};
 ghost use Rattle.meaning.specs.Refusals.{takesLists, takesBound, miscalled, mistaken, miscut, disorderedList, disordered, listsRefusal, takingRefusal};
 
 // A number of a lent run, as a place or a position.

@@ -1,35 +1,27 @@
-// The table of one operator over list leaves, for the machine.
-ghost use mathlib.Core.Path.{_≡_};
+// The table of one operator over lent lists, for the machine.
+use crate::refusals::wide;
 ghost use Prim.Native.Nat.{_≤_};
-ghost use Rattle.lists.specs.Table.{firstNumber, Laid};
+ghost use lib.ListN.{length};
+ghost use Rattle.lists.specs.Table.{Laid};
 
-// The first number of the operator's node: its bound, the number of its operands, or 0.
-fn first(op: usize, k: usize, n: usize) -> usize
-    ensures { λ r. ⌜ r ≡ firstNumber op k n ⌝ }
-{
-    if op == 5 {
-        return 0;
-    }
-    if op == 6 {
-        return k;
-    }
-    n
-}
-
-// The operator at node 0, and leaf i at node i + 1.
-pub(crate) fn table(op: usize, k: usize, n: usize) -> [usize; 128]
-    requires { ⌜ n ≤ 31 ⌝ }
-    ensures { λ r. ⌜ Laid op k n n r ⌝ }
+// The operator at node 0, and list i, by its places in the items, at node i + 1.
+pub(crate) fn table(op: usize, k: usize, ends: &[u32]) -> [usize; 128]
+    requires { ⌜ length (now ends) ≤ 31 ⌝ }
+    ensures { λ r. ⌜ Laid op k (length (now (ends .entry))) (now (ends .entry)) (length (now (ends .entry))) r ⌝ }
 {
     let mut rows = [0usize; 128];
     rows[0] = op;
-    rows[32] = n + 1;
-    rows[64] = first(op, k, n);
+    rows[32] = ends.len() + 1;
+    rows[64] = k;
+    let mut from: usize = 0;
     let mut i: usize = 0;
-    while i < n {
-        rows[1 + i] = 16;
+    while i < ends.len() {
+        let to = wide(ends[i]);
+        rows[1 + i] = 17;
         rows[33 + i] = 1;
-        rows[65 + i] = i;
+        rows[65 + i] = from;
+        rows[97 + i] = to;
+        from = to;
         i += 1;
     }
     rows

@@ -11,7 +11,7 @@ ghost use Prim.Native.Nat.{suc, _≤_};
 ghost use lib.ListN.{length, take, replicate};
 ghost use Rattle.stretches.specs.Stretch.{st};
 ghost use Rattle.stretches.specs.Taking.{total, skip, isTop, shrink, next, taking};
-ghost use Rattle.meaning.specs.Lent.{listsOf};
+ghost use Rattle.stretches.specs.Lent.{listsOf};
 ghost use Rattle.lists.specs.Queue.{frontOf, orderOf, viewOf, opOf, Lent, queue, handed, Moved, Handed};
 
 // What the algorithm looks at: the top of the queue for or, its span for and.

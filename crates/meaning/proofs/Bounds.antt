@@ -17,7 +17,7 @@ use Rattle.pattern.specs.declared.Table.{Table}
 use Rattle.pattern.proofs.Outcomes.{refuses-says}
 use Rattle.meaning.specs.Meaning.{answersIn}
 use Rattle.meaning.specs.Refusals.{Refusal, refused, refusal}
-use Rattle.meaning.specs.Filling.{pairsIn, written}
+use Rattle.stretches.specs.Filling.{pairsIn, written}
 use Rattle.meaning.specs.Finding.{listOf}
 use Rattle.meaning.proofs.Tree.{few-answers}
 use Rattle.meaning.proofs.Run.{says-length}

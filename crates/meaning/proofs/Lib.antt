@@ -1,6 +1,5 @@
 pub mod Tree
+pub mod Table
 pub mod Run
 pub mod Finding
-pub mod Filling
-pub mod Lent
 pub mod Bounds

@@ -4,61 +4,33 @@ use Prim.Native.Nat.{ℕ, _+_, _≤_, _<_}
 use mathlib.Core.Path.{_≡_, sym, ap, subst, subst₂, _∙_}
 use mathlib.Core.Bool.{Bool}
 use mathlib.Core.List.{List, _++_, map, map-append}
-use mathlib.Core.Option.{Option, none, some}
 use lib.ListN.{length, length-map}
 use native.Mathlib.Omega.{arith}
-use Rattle.stretches.specs.Stretch.{Stretch, st, Rising, Op, answers, marks}
+use Rattle.stretches.specs.Stretch.{Stretch, st, Fine, marks}
 use Rattle.stretches.specs.Stretch as op
 use Rattle.stretches.specs.Run.{cut}
-use Rattle.stretches.proofs.Answers.{AllRising, AllSound, Sound, rising-answers, sound-answers}
+use Rattle.stretches.specs.Operators.{apply}
+use Rattle.stretches.proofs.Fine.{AllFine, all-none, all-more, fine-apply, fine-marks}
 use Rattle.stretches.proofs.Window.{Window, Windows, or-alike, and-alike, row-alike, then-alike, less-alike, max-alike, local}
-use Rattle.stretches.proofs.Cut.{Below, AllBelow, below-answers, window-cut}
-use Rattle.stretches.proofs.Marks.{in-marks, rising-marks, window-marks}
+use Rattle.stretches.proofs.Cut.{window-cut}
+use Rattle.stretches.proofs.Marks.{window-marks}
 use Rattle.stretches.proofs.Steps.{rising-length}
 use Rattle.event_log.specs.declared.Line.{Line}
 use Rattle.pattern.specs.Pattern.{Symbol, Ev, Fr, Or, And, Row, Then, Less, Max, Pattern, Patterns, Node, Nil, Cons}
-use Rattle.meaning.specs.Meaning.{Valuation, matches, operator, apply, eval, evals, overLines, answersOf}
+use Rattle.meaning.specs.Meaning.{Valuation, matches, operator, eval, evals, overLines, answersOf}
 
 -- ── Every list of a pattern rises, is sound and ends below n, where the leaves' lists do ──
 
--- a list that rises, has no start above its end, and ends below n
-pub record Fine (n : ℕ) (l : List Stretch) : Type 0 where
-  pub rising : Rising l
-  pub sound : Sound l
-  pub below : Below n l
-
-pub record AllFine (n : ℕ) (ls : List (List Stretch)) : Type 0 where
-  pub rising : AllRising ls
-  pub sound : AllSound ls
-  pub below : AllBelow n ls
-
-pub fine-answers : (n : ℕ) (o : Op) (ls : List (List Stretch)) → AllFine n ls → Fine n (answers o ls)
-fine-answers n o ls f = record { rising = rising-answers o ls (f .rising) (f .sound); sound = sound-answers o ls (f .sound); below = below-answers o n ls (f .below) }
-
 module _ (n : ℕ) (v : Valuation) (leaves : (h : Symbol) → Fine n (v .leaf h)) where
-  fine-apply : (o : Option Op) (h : Symbol) (ls : List (List Stretch)) → AllFine n ls → Fine n (apply o (v .leaf h) ls)
-  fine-apply none h ls f = leaves h
-  fine-apply (some o) h ls f = fine-answers n o ls f
-
   mutual
     pub fine-eval : (p : Pattern) → Fine n (eval v p)
-    fine-eval (Node h ps) = fine-apply (operator (v .measure) h) h (evals v ps) (fine-evals ps)
+    fine-eval (Node h ps) = fine-apply n (operator (v .measure) h) (v .leaf h) (evals v ps) (leaves h) (fine-evals ps)
 
     pub fine-evals : (ps : Patterns) → AllFine n (evals v ps)
-    fine-evals Nil = record { rising = tt; sound = tt; below = tt }
-    fine-evals (Cons p ps) =
-        let h = fine-eval p in
-        let k = fine-evals ps in
-        record { rising = (h .rising, k .rising); sound = (h .sound, k .sound); below = (h .below, k .below) }
+    fine-evals Nil = all-none n
+    fine-evals (Cons p ps) = all-more (fine-eval p) (fine-evals ps)
 
 -- ── The leaves over lines ──
-
-pub fine-marks : (bs : List Bool) → Fine (length bs) (marks 0 bs)
-fine-marks bs = record {
-  rising = rising-marks 0 bs;
-  sound = λ s e m. omega (arith, in-marks 0 bs s e m .one);
-  below = λ s e m. omega (arith, in-marks 0 bs s e m .one, in-marks 0 bs s e m .to);
-}
 
 pub fine-leaf : (ls : List Line) (h : Symbol) → Fine (length ls) (marks 0 (map (matches h) ls))
 fine-leaf ls h = subst (λ (n : ℕ). Fine n (marks 0 (map (matches h) ls))) (length-map ls (matches h)) (fine-marks (map (matches h) ls))
@@ -86,8 +58,8 @@ module _ (r n : ℕ) (v v′ : Valuation) (b b′ : ℕ)
   window-apply (And k) ls ls′ f f′ w = local r n op.And op.And and-alike ls ls′ (f .rising) (f .sound) (f′ .rising) (f′ .sound) w
   window-apply (Row k) ls ls′ f f′ w = local r n op.Row op.Row row-alike ls ls′ (f .rising) (f .sound) (f′ .rising) (f′ .sound) w
   window-apply (Then k) ls ls′ f f′ w = local r n op.Then op.Then then-alike ls ls′ (f .rising) (f .sound) (f′ .rising) (f′ .sound) w
-  window-apply Less ls ls′ f f′ w = local r n op.Less op.Less less-alike ls ls′ (f .rising) (f .sound) (f′ .rising) (f′ .sound) w
-  window-apply (Max k) ls ls′ f f′ w = local r n (op.Max (v .measure) k) (op.Max (v′ .measure) k) (max-alike measures) ls ls′ (f .rising) (f .sound) (f′ .rising) (f′ .sound) w
+  window-apply Less ls ls′ f f′ w = local r n op.Less op.Less (less-alike r n) ls ls′ (f .rising) (f .sound) (f′ .rising) (f′ .sound) w
+  window-apply (Max k) ls ls′ f f′ w = local r n (op.Max (v .measure) k) (op.Max (v′ .measure) k) (max-alike r n (v .measure) (v′ .measure) k measures) ls ls′ (f .rising) (f .sound) (f′ .rising) (f′ .sound) w
 
   mutual
     window-eval : (p : Pattern) → Window r n (eval v p) (eval v′ p)

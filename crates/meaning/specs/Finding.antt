@@ -9,7 +9,7 @@ use Rattle.stretches.specs.Stretch.{Stretch}
 use Rattle.pattern.specs.Reading.{Outcome, Accepts, Refuses, outcomeOf}
 use Rattle.meaning.specs.Meaning.{answersIn}
 use Rattle.meaning.specs.Refusals.{refusal}
-use Rattle.meaning.specs.Filling.{written, moreAfter}
+use Rattle.stretches.specs.Filling.{written, moreAfter}
 use Rattle.meaning.specs.declared.Filled.{Filled}
 
 -- the answers of what a text was read as

@@ -1,5 +1,3 @@
 pub mod Meaning
-pub mod Filling
-pub mod Lent
 pub mod Refusals
 pub mod Finding

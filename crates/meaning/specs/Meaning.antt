@@ -1,47 +1,47 @@
 -- What a pattern answers in a log: the paper's "The pattern" and "What the operators mean".
 -- Assumes nothing.
 use Prim.Native.Nat.{ℕ}
-use mathlib.Core.Bool.{Bool, false}
+use mathlib.Core.Path.{_≡_, refl}
+use mathlib.Core.Bool.{Bool, false, cond}
 use mathlib.Core.List.{List, [], _∷_, map}
 use mathlib.Core.Option.{Option, none, some}
-use Rattle.stretches.specs.Stretch.{Stretch, Op, answers, marks, lengthOf}
-use Rattle.stretches.specs.Stretch as op
+use lib.Dec.{eqb}
+use Rattle.stretches.specs.Stretch as s
+use Rattle.stretches.specs.Stretch.{Stretch, Op, marks, lengthOf}
+use Rattle.stretches.specs.Operators.{operatorOf, apply}
+use Rattle.stretches.specs.Table.{kindAt, firstAt, secondAt, Given, listAt}
 use Rattle.event_log.specs.declared.Line.{Line}
 use Rattle.event_log.specs.Reading.{says}
 use Rattle.event_log.specs.Leaf.{codeIs, frameIs}
 use Rattle.pattern.specs.Pattern.{Symbol, Ev, Fr, Or, And, Row, Then, Less, Max, Pattern, Patterns, Node, Nil, Cons}
+use Rattle.pattern.specs.Rows.{kindOf, firstOf, secondOf}
 
--- which lines a leaf matches: `ev,c,l` those with code c on lane l, `fr,f,l` those with frame f on lane l
+-- which lines a leaf matches, by its kind and numbers: `ev,c,l`, kind 16, those with code c on lane l; `fr,f,l`, kind 17, those with frame f on lane l
+abbrev pub hits : ℕ → ℕ → ℕ → Line → Bool
+hits k a l x = cond (eqb k 16) (codeIs a l x) (cond (eqb k 17) (frameIs a l x) false)
+
 abbrev pub matches : Symbol → Line → Bool
-matches (Ev c l) x = codeIs c l x
-matches (Fr f l) x = frameIs f l x
-matches (Or n) x = false
-matches (And n) x = false
-matches (Row n) x = false
-matches (Then n) x = false
-matches Less x = false
-matches (Max k) x = false
+matches h x = hits (kindOf h) (firstOf h) (secondOf h) x
 
 -- the operator of a symbol, `max` with the measure m; none: a leaf
 abbrev pub operator : (Stretch → ℕ) → Symbol → Option Op
-operator m (Ev c l) = none
-operator m (Fr f l) = none
-operator m (Or n) = some op.Or
-operator m (And n) = some op.And
-operator m (Row n) = some op.Row
-operator m (Then n) = some op.Then
-operator m Less = some op.Less
-operator m (Max k) = some (op.Max m k)
+operator m h = operatorOf m (kindOf h) (firstOf h)
+
+-- each symbol with its own operator or its own test
+ex-operators : (m : Stretch → ℕ) (n k c l : ℕ) → map (operator m) (Or n ∷ And n ∷ Row n ∷ Then n ∷ Less ∷ Max k ∷ Ev c l ∷ Fr c l ∷ [])
+    ≡ some s.Or ∷ some s.And ∷ some s.Row ∷ some s.Then ∷ some s.Less ∷ some (s.Max m k) ∷ none ∷ none ∷ []
+ex-operators m n k c l = refl
+
+ex-ev : (c l : ℕ) (x : Line) → matches (Ev c l) x ≡ codeIs c l x
+ex-ev c l x = refl
+
+ex-fr : (f l : ℕ) (x : Line) → matches (Fr f l) x ≡ frameIs f l x
+ex-fr f l x = refl
 
 -- what the leaves' lists are, and what `max` measures
 pub record Valuation : Type 0 where
   pub leaf : Symbol → List Stretch
   pub measure : Stretch → ℕ
-
--- a symbol over the lists of its operands
-abbrev pub apply : Option Op → List Stretch → List (List Stretch) → List Stretch
-apply none leaf ls = leaf
-apply (some o) leaf ls = answers o ls
 
 -- the list of a pattern
 abbrev mutual
@@ -52,9 +52,13 @@ abbrev mutual
   evals v Nil = []
   evals v (Cons p ps) = eval v p ∷ evals v ps
 
--- over lines: a leaf has [p..p] for each matching line p, and `max` measures the length in lines
+-- what `max` measures in these lines: the length in lines
+abbrev pub measureIn : List Line → Stretch → ℕ
+measureIn ls x = lengthOf x
+
+-- over lines: a leaf has [p..p] for each matching line p
 abbrev pub overLines : List Line → Valuation
-overLines ls = record { leaf = λ h. marks 0 (map (matches h) ls); measure = lengthOf }
+overLines ls = record { leaf = λ h. marks 0 (map (matches h) ls); measure = measureIn ls }
 
 -- the answers of a pattern in these lines
 abbrev pub answersOf : Pattern → List Line → List Stretch
@@ -63,3 +67,13 @@ answersOf p ls = eval (overLines ls) p
 -- and in a log
 abbrev pub answersIn : Pattern → List ℕ → List Stretch
 answersIn p log = answersOf p (says log)
+
+-- ── The same of a table of nodes, as a pattern is read into one ──
+
+-- a node's own list has [p..p] for each line p that it matches
+abbrev pub overTable : List ℕ → List Line → Given
+overTable rows ls = record { own = λ v. marks 0 (map (hits (kindAt rows v) (firstAt rows v) (secondAt rows v)) ls); measure = measureIn ls }
+
+-- the list of its first node, which is the pattern's (`table-answers` of proofs/Table.antt)
+unfoldable pub tableIn : List ℕ → List ℕ → List Stretch
+tableIn rows log = listAt (overTable rows (says log)) rows 0

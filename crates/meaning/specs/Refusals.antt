@@ -10,7 +10,7 @@ use Rattle.stretches.specs.Stretch.{Stretch}
 use Rattle.event_log.specs.Lines.{lines}
 use Rattle.pattern.specs.Reading.{Outcome, Accepts, Refuses, outcomeOf}
 use Rattle.meaning.specs.Meaning.{answersIn}
-use Rattle.meaning.specs.Lent.{listsOf}
+use Rattle.stretches.specs.Lent.{listsOf}
 
 pub record Refusal : Type 0 where
   pub number : ℕ

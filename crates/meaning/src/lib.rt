@@ -1,4 +1,4 @@
-// The meaning of a pattern in a log, the refusals, and what a filling call leaves: definitions, their laws, and the answers' types.
+// The meaning of a pattern in a log, the refusals, and what a filling call returns: definitions, their laws, and the result's type.
 
 // What a filling call returns. A refusal has its number and place, and count 0; number 0: accepted. `more`: a further answer exists.
 pub struct Filled {

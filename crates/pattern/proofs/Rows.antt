@@ -6,23 +6,11 @@ use mathlib.Core.List.{List, _∷_, _++_, map, map-append}
 use lib.ListN.{length, getD, replicate, length-append, length-map, List·getD-append}
 use lib.Seq.{getD-append-add}
 use native.Mathlib.Omega.{arith}
-use Rattle.pattern.specs.Pattern.{Symbol, Ev, Fr, Or, And, Row, Then, Less, Max, Pattern, Node, Patterns, Nil, Cons, nodes, nodesOf, preorder, preorders, sizes, sizesOf}
-use Rattle.pattern.specs.Rows.{kindOf, firstOf, secondOf, padded, rowsOf, Entry, Tree, Trees, symbol}
+use Rattle.pattern.specs.Pattern.{Symbol, Pattern, Node, Patterns, Nil, Cons, nodes, nodesOf, preorder, preorders, sizes, sizesOf}
+use Rattle.pattern.specs.Rows.{kindOf, firstOf, secondOf, padded, rowsOf, Entry, Tree, Trees}
 use Rattle.pattern.specs.Answer.{table}
 use Rattle.pattern.proofs.Columns.{length-padded, length-column}
 use Rattle.pattern.proofs.Forests.{length-preorder, length-sizes}
-
--- a symbol is that of its kind and its numbers
-pub symbol-of : (h : Symbol) → h ≡ symbol (kindOf h) (firstOf h) (secondOf h)
-unfolding symbol
-symbol-of (Ev c l) = refl
-symbol-of (Fr f l) = refl
-symbol-of (Or n) = refl
-symbol-of (And n) = refl
-symbol-of (Row n) = refl
-symbol-of (Then n) = refl
-symbol-of Less = refl
-symbol-of (Max k) = refl
 
 -- ── One of four columns ──
 

@@ -4,8 +4,9 @@ use Prim.Native.Nat.{ℕ, _+_, _-_}
 use mathlib.Core.Path.{_≡_, refl}
 use mathlib.Core.Bool.{cond}
 use mathlib.Core.List.{List, [], _∷_, _++_, map}
-use lib.ListN.{length, getD, replicate}
+use lib.ListN.{length, replicate}
 use lib.Dec.{eqb}
+use Rattle.stretches.specs.Table.{kindAt, sizeAt, firstAt, secondAt}
 use Rattle.pattern.specs.Pattern.{Symbol, Ev, Fr, Or, And, Row, Then, Less, Max, Pattern, Patterns, Node, Nil, Cons, nodes, preorder, sizes}
 
 -- ── A node's numbers ──
@@ -65,19 +66,6 @@ padded l = l ++ replicate (32 - length l) 0
 -- kinds, sizes of the subtrees, first numbers and second numbers
 unfoldable pub rowsOf : Pattern → List ℕ
 rowsOf p = padded (map kindOf (preorder p)) ++ (padded (sizes p) ++ (padded (map firstOf (preorder p)) ++ padded (map secondOf (preorder p))))
-
--- the entries of node v
-abbrev pub kindAt : List ℕ → ℕ → ℕ
-kindAt rows v = getD rows v 0
-
-abbrev pub sizeAt : List ℕ → ℕ → ℕ
-sizeAt rows v = getD rows (32 + v) 0
-
-abbrev pub firstAt : List ℕ → ℕ → ℕ
-firstAt rows v = getD rows (64 + v) 0
-
-abbrev pub secondAt : List ℕ → ℕ → ℕ
-secondAt rows v = getD rows (96 + v) 0
 
 -- ── A tree in a table ──
 

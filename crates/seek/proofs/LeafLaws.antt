@@ -1,131 +1,144 @@
--- A leaf over either source: a matching line is a front of the leaf's list, a cursor stays true, and each return of a leaf is one law.
+-- Leaves: how a leaf goes over a lent list from a hint that is checked, and what it finds; and what it finds in a row of marks.
 -- Assumes nothing.
-use mathlib.Core.Path.{_≡_, refl, sym, ap, subst, subst₂, _∙_}
-use mathlib.Core.Logic.{_⊎_, _≢_, ⊎-elim}
+use mathlib.Core.Path.{_≡_, refl, sym, ap, ap₂, subst, _∙_}
+use mathlib.Core.Logic.{_⊎_, _≢_, inl, inr}
 use mathlib.Core.Bool.{true, false, cond}
-use mathlib.Core.List.{List, [], map}
-use Prim.Native.Nat.{ℕ, _+_, _≤_, _<_}
+use mathlib.Core.List.{List, [], _∷_}
+use Prim.Native.Nat.{ℕ, zero, suc, _+_, _-_, _*_, _/_, _%_, _≤_, _<_}
 use native.Mathlib.Omega.{arith}
 use lib.ListN.{length, getD, set, length-set}
-use lib.Seq.{getD-set-same, getD-set-other}
-use borrow.Author.Tests.{eq-eqb, ne-eqb}
-use Rattle.stretches.specs.Stretch.{Stretch, Rising, marks}
-use Rattle.stretches.specs.Front.{firstFrom}
-use Rattle.basics.proofs.Basics.{eq-or-ne}
-use Rattle.event_log.specs.Lines.{Cursor}
-use Rattle.event_log.specs.Reading.{says}
-use Rattle.event_log.proofs.LinesLaws.{cursor-start}
-use Rattle.pattern.specs.Pattern.{Symbol}
-use Rattle.pattern.specs.Rows.{kindAt, firstAt, secondAt, firstOf}
-use Rattle.meaning.specs.Meaning.{matches}
-use Rattle.meaning.specs.Lent.{listsOf}
-use Rattle.meaning.proofs.Lent.{lists-at}
+use lib.Seq.{getD-set-other}
+use lib.Dec.{leb}
+use borrow.Author.Tests.{le-leb, lt-leb}
+use Rattle.basics.proofs.Basics.{cases}
+use Rattle.stretches.specs.Stretch.{Stretch, st, In, Rising, Fine, marks}
+use Rattle.stretches.specs.Lent.{part}
+use Rattle.stretches.specs.Front as fronts
+use Rattle.stretches.specs.Front.{None, At, firstFrom}
+use Rattle.stretches.proofs.Fronts.{front-good}
+use Rattle.stretches.proofs.Marks.{in-marks, rising-marks}
+use Rattle.stretches.proofs.Lent.{part-cons, part-nil}
+use Rattle.marks.specs.Row.{row, found}
+use Rattle.marks.specs.declared.Found as marked
 use Rattle.seek.specs.declared.Front.{Front}
-use Rattle.seek.specs.declared.lines.LineFound.{LineFound}
-use Rattle.seek.specs.Moves.{atF, noneF}
-use Rattle.seek.specs.Source.{Source, source, leafOf}
-use Rattle.seek.specs.Seek.{front, Cursors}
-use Rattle.seek.specs.Lines.{NextLine}
-use Rattle.seek.specs.Leaves.{listOf, Hinted, ListFound, LineSought, LeafFound}
-use Rattle.seek.proofs.LineWalk.{hit-front, missed-front}
-use Rattle.seek.proofs.ListLaws.{hinted-set}
+use Rattle.seek.specs.Source.{lent}
+use Rattle.seek.specs.Fronts.{atF, noneF, front}
+use Rattle.seek.specs.Leaves.{Resumed, Ran, Hinted, ListFound, RowFound}
 
--- ── A log ──
+-- ── A list from a place on ──
 
-module _ {rows log : List ℕ} {v line place t : ℕ} {st : List ℕ} {r : Front} (f : LineFound)
-    (g : NextLine log (kindAt rows v) (firstAt rows v) (secondAt rows v) line place t f) where
-  pub line-hit : f .hit ≡ true → r ≡ atF (f .line) (f .line) → LineSought rows log v line place t st r (set (set st (128 + v) (f .next)) (160 + v) (f .place))
-  unfolding NextLine
-  line-hit hit e = record {
-    next = f .next;
-    on = f .place;
-    kept = refl;
-    is = λ h n w brief cur le.
-        let k = g .1 h (sym (w .kind)) (sym (w .first)) (sym (w .second)) brief cur le .0 hit in
-        (e ∙ ap front (sym (hit-front h log t f k)), k .cursor);
-  }
+-- one that starts before t is passed
+part-pass : (items : List ℕ) (i h t : ℕ) → i + 1 < h → h ≤ length items → getD items i 0 < t → firstFrom (part items i h) t ≡ firstFrom (part items (i + 2) h) t
+part-pass items i h t lt le b =
+    ap (λ (l : List Stretch). firstFrom l t) (part-cons items i h lt le) ∙ ap (λ c. cond c (At (st (getD items i 0) (getD items (i + 1) 0))) (firstFrom (part items (i + 2) h) t)) (lt-leb t (getD items i 0) b)
 
-  pub line-missed : f .hit ≡ false → r ≡ noneF → LineSought rows log v line place t st r (set (set st (128 + v) (f .next)) (160 + v) (f .place))
-  unfolding NextLine
-  line-missed miss e = record {
-    next = f .next;
-    on = f .place;
-    kept = refl;
-    is = λ h n w brief cur le.
-        let k = g .1 h (sym (w .kind)) (sym (w .first)) (sym (w .second)) brief cur le .1 miss in
-        (e ∙ ap front (sym (missed-front h log t f k)), k .cursor);
-  }
+part-at : (items : List ℕ) (i h t : ℕ) → i + 1 < h → h ≤ length items → t ≤ getD items i 0 → firstFrom (part items i h) t ≡ At (st (getD items i 0) (getD items (i + 1) 0))
+part-at items i h t lt le b =
+    ap (λ (l : List Stretch). firstFrom l t) (part-cons items i h lt le) ∙ ap (λ c. cond c (At (st (getD items i 0) (getD items (i + 1) 0))) (firstFrom (part items (i + 2) h) t)) (le-leb t (getD items i 0) b)
 
--- ── The kept cursors ──
+-- one that starts before t is passed on the run
+pub ran-turn : (items : List ℕ) (p hi t i : ℕ) → firstFrom (part items p hi) t ≡ firstFrom (part items i hi) t → i + 1 < hi → hi ≤ length items → getD items i 0 < t
+    → firstFrom (part items p hi) t ≡ firstFrom (part items (i + 2) hi) t
+ran-turn items p hi t i e lt le b = e ∙ part-pass items i hi t lt le b
 
--- one cursor changed, the others stay
-cursors-set : (src : Source) (s : List ℕ) (v n p : ℕ) → length s ≡ 192 → v < 32 → Cursor (src .log) n p → Cursors src s → Cursors src (set (set s (128 + v) n) (160 + v) p)
-cursors-set src s v n p wide lv c all none u lu = ⊎-elim same other (eq-or-ne u v)
+-- in a rising list the stretches before one that starts before t do too
+module _ (items : List ℕ) (hi t : ℕ) (le : hi ≤ length items) where
+  back : (k lo : ℕ) → Rising (part items lo hi) → lo + 2 * (suc k) ≤ hi → getD items (lo + 2 * k) 0 < t
+      → (firstFrom (part items lo hi) t ≡ firstFrom (part items (lo + 2 * (suc k)) hi) t) × (getD items lo 0 ≤ getD items (lo + 2 * k) 0)
+  back zero lo r fits b =
+      let z : lo + 2 * 0 ≡ lo = omega arith in
+      let y : lo + 2 ≡ lo + 2 * 1 = omega arith in
+      let w : getD items lo 0 ≡ getD items (lo + 2 * 0) 0 = ap (λ (i : ℕ). getD items i 0) (sym z) in
+      (part-pass items lo hi t (omega arith) le (omega arith) ∙ ap (λ (i : ℕ). firstFrom (part items i hi) t) y, omega arith)
+  back (suc k) lo r fits b =
+      let y : lo + 2 + 2 * k ≡ lo + 2 * suc k = omega arith in
+      let y' : lo + 2 + 2 * (suc k) ≡ lo + 2 * suc (suc k) = omega arith in
+      let c = part-cons items lo hi (omega arith) le in
+      let r' : Rising (st (getD items lo 0) (getD items (lo + 1) 0) ∷ part items (lo + 2) hi) = subst Rising c r in
+      let ih = back k (lo + 2) (r' .1) (omega arith) (subst (λ (i : ℕ). getD items i 0 < t) (sym y) b) in
+      let g : getD items (lo + 2 + 2 * k) 0 ≡ getD items (lo + 2 * suc k) 0 = ap (λ (i : ℕ). getD items i 0) y in
+      let c' = part-cons items (lo + 2) hi (omega arith) le in
+      let up = r' .0 (getD items (lo + 2) 0) (getD items (lo + 2 + 1) 0) (subst (In (getD items (lo + 2) 0) (getD items (lo + 2 + 1) 0)) (sym c') (inl (refl, refl))) in
+      (part-pass items lo hi t (omega arith) le (omega (arith, up .0, ih .1)) ∙ (ih .0 ∙ ap (λ (i : ℕ). firstFrom (part items i hi) t) y'), omega (arith, up .0, ih .1))
+
+  pub resumed-same : (lo r : ℕ) → Rising (part items lo hi) → Resumed items lo hi t r → firstFrom (part items lo hi) t ≡ firstFrom (part items r hi) t
+  resumed-same lo r up h = go (h .step) (h .is) (h .past)
+    where
+      go : (k : ℕ) → r ≡ lo + 2 * k → (k ≡ 0) ⊎ (getD items (r - 2) 0 < t) → firstFrom (part items lo hi) t ≡ firstFrom (part items r hi) t
+      go zero e p = let z : lo ≡ r = omega arith in ap (λ (i : ℕ). firstFrom (part items i hi) t) z
+      go (suc k) e (inl p) = absurd (omega arith)
+      go (suc k) e (inr p) =
+          let z : r - 2 ≡ lo + 2 * k = omega arith in
+          back k lo up (omega (arith, h .fits)) (subst (λ (i : ℕ). getD items i 0 < t) z p) .0 ∙ ap (λ (i : ℕ). firstFrom (part items i hi) t) (sym e)
+
+pub resume-none : {items : List ℕ} {lo hi t : ℕ} → lo ≤ hi → Resumed items lo hi t lo
+resume-none le = record { step = 0; is = omega arith; fits = le; past = inl refl }
+
+pub resume-at : {items : List ℕ} {lo hi t c : ℕ} → lo ≤ c → c ≤ hi → (c - lo) % 2 ≡ 0 → getD items (c - 2) 0 < t → Resumed items lo hi t c
+resume-at {items} {lo} {hi} {t} {c} a b e p = record { step = (c - lo) / 2; is = omega arith; fits = b; past = inr p }
+
+-- ── What a leaf finds ──
+
+pub hinted-same : {s : List ℕ} → Hinted s s
+hinted-same = record { wide = refl; same = λ j lt. refl }
+
+pub hinted-set : (s : List ℕ) (i x : ℕ) → 96 ≤ i → Hinted s (set s i x)
+hinted-set s i x le = record { wide = simp length-set; same = λ j lt. let w : j ≢ i = λ e. omega arith in rw getD-set-other }
+
+-- a list that lies inside the items, and one that does not
+lent-inside : (items : List ℕ) (lo hi : ℕ) → hi ≤ length items → lent items lo hi ≡ part items lo hi
+lent-inside items lo hi le = ap (λ b. cond b (part items lo hi) []) (le-leb hi (length items) le)
+
+lent-outside : (items : List ℕ) (lo hi : ℕ) → length items < hi → lent items lo hi ≡ []
+lent-outside items lo hi lt = ap (λ b. cond b (part items lo hi) []) (lt-leb hi (length items) lt)
+
+-- a list with no place
+pub list-empty : {items : List ℕ} {lo hi t : ℕ} {s : List ℕ} {r : Front} → r ≡ noneF → hi < lo → ListFound items lo hi t s r s
+list-empty {items} {lo} {hi} {t} e lt = record { is = λ up. e ∙ ap (λ (l : List Stretch). front (firstFrom l t)) (sym none); hinted = hinted-same }
   where
-    same : u ≡ v → Cursor (src .log) (getD (set (set s (128 + v) n) (160 + v) p) (128 + u) 0) (getD (set (set s (128 + v) n) (160 + v) p) (160 + u) 0)
-    same e =
-        let w : 128 + v ≢ 160 + v = λ z. omega arith in
-        let a : 128 + v < length s = omega arith in
-        let b : 160 + v < length (set s (128 + v) n) = simp length-set (omega arith) in
-        let x : getD (set (set s (128 + v) n) (160 + v) p) (128 + v) 0 ≡ n = rw (getD-set-other, getD-set-same) in
-        let y : getD (set (set s (128 + v) n) (160 + v) p) (160 + v) 0 ≡ p = rw getD-set-same in
-        subst (λ (u : ℕ). Cursor (src .log) (getD (set (set s (128 + v) n) (160 + v) p) (128 + u) 0) (getD (set (set s (128 + v) n) (160 + v) p) (160 + u) 0)) (sym e)
-        (subst₂ (Cursor (src .log)) (sym x) (sym y) c)
+    none : lent items lo hi ≡ []
+    none = cases (leb hi (length items)) (λ b. cond b (part items lo hi) [] ≡ []) (λ k. part-nil items lo hi (omega arith)) (λ k. refl)
 
-    kept : (j : ℕ) → j ≢ 128 + v → j ≢ 160 + v → getD (set (set s (128 + v) n) (160 + v) p) j 0 ≡ getD s j 0
-    kept j a b = rw (getD-set-other, getD-set-other)
+pub list-outside : {items : List ℕ} {lo hi t : ℕ} {s : List ℕ} {r : Front} → r ≡ noneF → length items < hi → ListFound items lo hi t s r s
+list-outside {items} {lo} {hi} {t} e bad = record { is = λ up. e ∙ ap (λ (l : List Stretch). front (firstFrom l t)) (sym (lent-outside items lo hi bad)); hinted = hinted-same }
 
-    other : (u < v) ⊎ (v < u) → Cursor (src .log) (getD (set (set s (128 + v) n) (160 + v) p) (128 + u) 0) (getD (set (set s (128 + v) n) (160 + v) p) (160 + u) 0)
-    other o =
-        let ne : u ≢ v = λ e. ⊎-elim (λ (l : u < v). omega arith) (λ (l : v < u). omega arith) o in
-        let x = kept (128 + u) (λ e. omega (arith, ne)) (λ e. omega (arith, ne)) in
-        let y = kept (160 + u) (λ e. omega (arith, ne)) (λ e. omega (arith, ne)) in
-        subst₂ (Cursor (src .log)) (sym x) (sym y) (all none u lu)
+module _ {items : List ℕ} {t lo hi p q : ℕ} (le : hi ≤ length items) (w : Resumed items lo hi t p) (g : Ran items p hi t q) where
+  -- from place q on stands what is found
+  run-found : Rising (lent items lo hi) → firstFrom (lent items lo hi) t ≡ firstFrom (part items q hi) t
+  run-found up =
+      let z = lent-inside items lo hi le in
+      ap (λ (l : List Stretch). firstFrom l t) z ∙ resumed-same items hi t le lo p (subst Rising z up) w ∙ g .same
 
--- ── Either source ──
+  pub list-none : {s s' : List ℕ} {r : Front} → Hinted s s' → r ≡ noneF → hi ≤ q + 1 → ListFound items lo hi t s r s'
+  list-none hint e past = record { is = λ up. e ∙ ap front (sym (run-found up ∙ ap (λ (l : List Stretch). firstFrom l t) (part-nil items q hi past))); hinted = hint }
 
-over-log : (src : Source) (h : Symbol) → length (src .ends) ≡ 0 → leafOf src h ≡ marks 0 (map (matches h) (says (src .log)))
-unfolding leafOf
-over-log src h e = ap (λ b. cond b (marks 0 (map (matches h) (says (src .log)))) (getD (listsOf (src .items) (src .ends)) (firstOf h) [])) (eq-eqb (length (src .ends)) 0 e)
+  pub list-at : {s s' : List ℕ} {r : Front} → Hinted s s' → r ≡ atF (getD items q 0) (getD items (q + 1) 0) → q + 1 < hi → ListFound items lo hi t s r s'
+  list-at hint e lt = record { is = λ up. e ∙ ap front (sym (run-found up ∙ part-at items q hi t lt le (g .here lt))); hinted = hint }
 
-pub over-lists : (src : Source) (h : Symbol) → (length (src .ends) ≡ 0 → ⊥) → leafOf src h ≡ getD (listsOf (src .items) (src .ends)) (firstOf h) []
-unfolding leafOf
-over-lists src h e = ap (λ b. cond b (marks 0 (map (matches h) (says (src .log)))) (getD (listsOf (src .items) (src .ends)) (firstOf h) [])) (ne-eqb (length (src .ends)) 0 e)
+-- ── A row of marks ──
 
-list-is : (items ends : List ℕ) (k : ℕ) → getD (listsOf items ends) k [] ≡ listOf items ends k
-unfolding listOf
-list-is items ends k = lists-at items ends k
+module _ (words : List ℕ) (at width t : ℕ) (f : marked.Found) (is : f ≡ found (firstFrom (marks 0 (row words at width)) t)) where
+  pub row-missed : {r : Front} → f .hit ≡ false → r ≡ noneF → RowFound words at width t r
+  unfolding found
+  row-missed {r} miss e = record { is = λ fine. go (firstFrom (marks 0 (row words at width)) t) is }
+    where
+      go : (g : fronts.Front) → f ≡ found g → r ≡ front g
+      go None k = e
+      go (At x) k = let z : false ≡ true = cc in absurd (let y : _≡_ {A = ℕ} 0 1 = cc in omega arith)
 
-pub leaf-list : {rows log items ends : List ℕ} {v t : ℕ} {s : List ℕ} {r : Front} {s' : List ℕ} → (length ends ≡ 0 → ⊥) → ListFound items ends (firstAt rows v) t s r s'
-    → LeafFound rows (source log items ends) v t s r s'
-leaf-list {rows} {log} {items} {ends} {v} {t} some l = record {
-  is = λ h n e good wide cur.
-      let z : leafOf (source log items ends) h ≡ listOf items ends (firstAt rows v) =
-      over-lists (source log items ends) h some ∙ (list-is items ends (firstOf h) ∙ ap (listOf items ends) (sym (e .first))) in
-      (l .is (subst Rising z (good .up h)) (good .inside) ∙ ap (λ (m : List Stretch). front (firstFrom m t)) (sym z), λ none. absurd (some none));
-  hinted = l .hinted;
-}
+  -- the line that was hit
+  row-hit : f .hit ≡ true → Fine 65536 (marks 0 (row words at width)) → (atF (f .line) (f .line) ≡ front (firstFrom (marks 0 (row words at width)) t)) × (f .line < 65536)
+  unfolding found
+  row-hit hit fine = go (firstFrom (marks 0 (row words at width)) t) refl is
+    where
+      go : (g : fronts.Front) → firstFrom (marks 0 (row words at width)) t ≡ g → f ≡ found g → (atF (f .line) (f .line) ≡ front g) × (f .line < 65536)
+      go None z k = let y : false ≡ true = cc in absurd (let y : _≡_ {A = ℕ} 0 1 = cc in omega arith)
+      go (At x) z k =
+          let l : f .line ≡ x .start = ap (λ (f : marked.Found). f .line) k in
+          let m = front-good (marks 0 (row words at width)) (rising-marks 0 (row words at width)) t x z in
+          let o = in-marks 0 (row words at width) (x .start) (x .end) (m .0) .one in
+          let i : f .line ≡ x .end = omega arith in
+          (ap₂ atF l i, omega (arith, fine .below (x .start) (x .end) (m .0)))
 
-hinted-two : (s : List ℕ) (v n p : ℕ) → Hinted s (set (set s (128 + v) n) (160 + v) p)
-hinted-two s v n p =
-    let a = hinted-set s (128 + v) n (omega arith) in
-    let b = hinted-set (set s (128 + v) n) (160 + v) p (omega arith) in
-    record { wide = b .wide ∙ a .wide; same = λ j lt. b .same j lt ∙ a .same j lt }
-
-module _ {rows log items ends : List ℕ} {v t : ℕ} {s : List ℕ} {r : Front} {s' : List ℕ} (none : length ends ≡ 0) (lv : v < 32) where
-  -- sought from a true cursor that is not past t
-  leaf-line : (line place : ℕ) → line ≤ t → (Cursors (source log items ends) s → Cursor log line place) → LineSought rows log v line place t s r s' → LeafFound rows (source log items ends) v t s r s'
-  leaf-line line place le from l = record {
-    is = λ h n e good wide cur.
-        let k = l .is h n e (good .brief none) (from cur) le in (
-          k .0 ∙ ap (λ (m : List Stretch). front (firstFrom m t)) (sym (over-log (source log items ends) h none)),
-          subst (Cursors (source log items ends)) (sym (l .kept)) (cursors-set (source log items ends) s v (l .next) (l .on) wide lv (k .1) cur),
-        );
-    hinted = subst (Hinted s) (sym (l .kept)) (hinted-two s v (l .next) (l .on));
-  }
-
-  pub leaf-kept : {line place : ℕ} → line ≡ getD s (128 + v) 0 → place ≡ getD s (160 + v) 0 → line ≤ t → LineSought rows log v line place t s r s' → LeafFound rows (source log items ends) v t s r s'
-  leaf-kept {line} {place} el ep le l = leaf-line line place le (λ cur. subst₂ (Cursor log) (sym el) (sym ep) (cur none v lv)) l
-
-  pub leaf-anew : LineSought rows log v 0 0 t s r s' → LeafFound rows (source log items ends) v t s r s'
-  leaf-anew l = leaf-line 0 0 (omega arith) (λ cur. cursor-start log) l
+  pub row-there : {r : Front} → f .hit ≡ true → (f .line < 65536 → r ≡ atF (f .line) (f .line)) → RowFound words at width t r
+  row-there hit e = record { is = λ fine. let h = row-hit hit fine in e (h .1) ∙ h .0 }

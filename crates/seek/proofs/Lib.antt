@@ -1,14 +1,12 @@
--- What the proofs of several functions use; `pub`: what other crates cite.
-pub mod Shape
-mod Looks
-mod Best
+pub mod LeafLaws
+pub mod Best
+pub mod Looks
 pub mod Nodes
-mod State
-mod Turns
-mod Searches
-mod LineWalk
-mod ListLaws
-mod LeafLaws
-pub mod Sources
+pub mod Shapes
+pub mod State
+pub mod Turns
+pub mod Searches
 pub mod Walk
-mod Written
+pub mod FoldLeaf
+pub mod FoldLaws
+pub mod FoldSteps

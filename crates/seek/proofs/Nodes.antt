@@ -1,222 +1,175 @@
--- What a node of the tree finds, by its kind in the table: one record for each way of the machine. A kind fixes the symbol, and the symbol the operator.
--- Assumes nothing.
-use mathlib.Core.Path.{_≡_, refl, sym, ap, subst}
+-- What a node of the table stands for, by its kind, and what a seek from any line finds of it. Assumes nothing.
+use mathlib.Core.Path.{_≡_, refl, sym, ap, subst, _∙_}
 use mathlib.Core.Logic.{_⊎_, inl, inr}
-use mathlib.Core.List.{List, []}
-use Prim.Native.Nat.{ℕ, _+_, _≤_, _<_}
+use mathlib.Core.Bool.{cond}
+use mathlib.Core.List.{List, [], _∷_}
+use mathlib.Core.Option.{none}
+use Prim.Native.Nat.{ℕ, zero, suc, _+_, _≤_, _<_}
 use native.Mathlib.Omega.{arith}
-use Rattle.stretches.specs.Stretch.{Stretch, Op, answers}
+use lib.Dec.{eqb}
+use borrow.Author.Tests.{ne-eqb}
+use Rattle.stretches.specs.Stretch.{Stretch, Fine, Op, answers, marks}
 use Rattle.stretches.specs.Stretch as op
+use Rattle.stretches.specs.Operators.{operators, among, operatorOf, apply}
 use Rattle.stretches.specs.Front as fronts
 use Rattle.stretches.specs.Front.{None, At, firstFrom}
-use Rattle.stretches.proofs.Answers.{AllRising, AllSound, cand-sound}
-use Rattle.stretches.proofs.Fronts.{FirstIs, first-good, first-is, first-none}
+use Rattle.stretches.specs.Table.{kindAt, firstAt, secondAt, stopOf, operandsOf}
+use Rattle.stretches.proofs.Answers.{cand-sound}
 use Rattle.stretches.proofs.Cut.{cand-below}
+use Rattle.stretches.proofs.Fine.{AllFine}
+use Rattle.stretches.proofs.Fronts.{FirstIs, first-good, first-is, first-none}
+use Rattle.stretches.proofs.Table.{list-node, all-operands, fine-list}
 use Rattle.stretches.proofs.Tight.{Tight}
-use Rattle.pattern.specs.Pattern.{Symbol, And, Row, Then, Less, Max, Pattern, Patterns, Node, Nil, Cons, count}
-use Rattle.pattern.specs.Rows.{kindAt, firstAt, secondAt, Tree, symbol}
-use Rattle.meaning.specs.Meaning.{eval, evals}
-use Rattle.meaning.proofs.Tree.{Fine, AllFine, fine-eval, fine-evals}
-use Rattle.seek.specs.declared.Front.{Front}
-use Rattle.seek.specs.Moves.{atF, noneF, lookOf, goF, nextOf, clearOf, shortOf, Serves, ended, ahead}
-use Rattle.seek.specs.Source.{Source, leafOf, valuation, Good}
-use Rattle.seek.specs.Seek.{Arity, Shaped, Fits, front, first, pass, passAll, look, Narrows, Skips}
-use Rattle.seek.proofs.Shape.{symbol-is, Rest, operands, rest-kid, rest-next}
-use Rattle.seek.proofs.Looks.{TightLook, SkipLook, and-look, then-look, row-look, less-look, max-look}
-use Rattle.seek.proofs.Best.{bestFrom, or-look}
+use Rattle.marks.specs.Row.{row}
+use Rattle.seek.specs.Source.{Source, measured, lent, ownList, given, listOf, Good}
+use Rattle.seek.specs.Fronts.{noneF, front}
+use Rattle.seek.specs.Seek.{first, lookBy, look, Narrows, Skips}
+use Rattle.seek.proofs.Looks.{TightLook, t-none, SkipLook, k-none, and-look, then-look, row-look, less-look, max-look}
 
--- ── Every pattern's answers ──
+-- ── Fronts ──
 
-module _ (src : Source) (good : Good src) where
-  fine-leaves : (h : Symbol) → Fine 65536 (leafOf src h)
-  fine-leaves h = record { rising = good .up h; sound = good .ok h; below = good .small h }
+module _ (src : Source) (rows : List ℕ) (good : Good src rows) (v : ℕ) (lv : v < 32) where
+  -- a node's list is fine
+  pub fine : Fine 65536 (listOf src rows v)
+  fine = fine-list (given src rows) rows 65536 good v lv
 
-  -- the list of a pattern over a good source rises, has no start above its end, and ends below 65,536
-  pub fine : (q : Pattern) → Fine 65536 (eval (valuation src) q)
-  fine q = fine-eval 65536 (valuation src) fine-leaves q
+  -- and so are its operands'
+  pub fine-operands : AllFine 65536 (operandsOf (given src rows) rows v)
+  fine-operands = all-operands (given src rows) rows 65536 good (stopOf rows v) (v + 1)
 
-  pub all-fine : (ps : Patterns) → AllFine 65536 (evals (valuation src) ps)
-  all-fine ps = fine-evals 65536 (valuation src) fine-leaves ps
+  -- a front is none, or starts below line 65,536
+  pub first-small : (t : ℕ) → first src rows v t .start ≤ 65536
+  unfolding first
+  first-small t = go (firstFrom (listOf src rows v) t) (first-good (listOf src rows v) (fine .rising) t)
+    where
+      go : (g : fronts.Front) → FirstIs (listOf src rows v) t g → front g .start ≤ 65536
+      go None h = omega arith
+      go (At x) h = omega (arith, fine .sound (x .start) (x .end) (h .0), fine .below (x .start) (x .end) (h .0))
 
   -- what was found from t serves from any t' up to it
-  pub stays : (q : Pattern) (t t' : ℕ) → Serves (first src q t) t t' → first src q t' ≡ first src q t
+  pub stays : (t t' : ℕ) → t ≤ t' → t' ≤ first src rows v t .start → first src rows v t' ≡ first src rows v t
   unfolding first
-  stays q t t' s = go (firstFrom (eval (valuation src) q) t) (first-good (eval (valuation src) q) (fine q .rising) t) s
+  stays t t' le ge = go (firstFrom (listOf src rows v) t) (first-good (listOf src rows v) (fine .rising) t) ge
     where
-      none : {f : Front} → f .status ≡ 2 → Serves f t t' → t ≤ t'
-      none e (ended h _) = h
-      none e (ahead h _ _) = h
-
-      some : {f : Front} → f .status ≡ 1 → Serves f t t' → (t ≤ t') × (t' ≤ f .start)
-      some e (ended h z) = absurd (omega arith)
-      some e (ahead h _ z) = (h, z)
-
-      go : (g : fronts.Front) → FirstIs (eval (valuation src) q) t g → Serves (front g) t t' → front (firstFrom (eval (valuation src) q) t') ≡ front g
-      go None h k = let w = none {f = noneF} refl k in ap front (first-none (eval (valuation src) q) (fine q .rising) t' (λ s e m. omega (arith, h s e m)))
-      go (At x) h k =
-          let w = some {f = atF (x .start) (x .end)} refl k in
-          ap front (first-is (eval (valuation src) q) (fine q .rising) t' (x .start) (x .end) (h .0) (w .1) (λ s e m p. h .2 s e m (omega (arith, w .0)) .1))
+      go : (g : fronts.Front) → FirstIs (listOf src rows v) t g → t' ≤ front g .start → front (firstFrom (listOf src rows v) t') ≡ front g
+      go None h k = ap front (first-none (listOf src rows v) (fine .rising) t' (λ s e m. omega (arith, h s e m)))
+      go (At x) h k = ap front (first-is (listOf src rows v) (fine .rising) t' (x .start) (x .end) (h .0) k (λ s e m p. h .2 s e m (omega arith) .1))
 
   -- nothing starts at line 65,536 or later
-  pub past : (q : Pattern) (t : ℕ) → 65536 ≤ t → noneF ≡ first src q t
+  pub past : (t : ℕ) → 65536 ≤ t → noneF ≡ first src rows v t
   unfolding first
-  past q t h = ap front (sym (first-none (eval (valuation src) q) (fine q .rising) t (λ s e m. omega (arith, fine q .sound s e m, fine q .below s e m))))
+  past t h = ap front (sym (first-none (listOf src rows v) (fine .rising) t (λ a e m. omega (arith, fine .sound a e m, fine .below a e m))))
 
--- ── The ways of the machine ──
+-- ── A node's list by its kind ──
 
--- or: the best of the operands' fronts
-pub record Either (rows : List ℕ) (src : Source) (v fuel : ℕ) (q : Pattern) : Type 0 where
-  pub ps : Patterns
-  pub rest : Rest rows v fuel (v + 1) ps
-  pub is : (t : ℕ) → bestFrom t noneF (evals (valuation src) ps) ≡ first src q t
+among-none : (m : Stretch → ℕ) (k n : ℕ) → 6 ≤ n → among (operators m k) n ≡ none
+among-none m k zero h = absurd (omega arith)
+among-none m k (suc zero) h = absurd (omega arith)
+among-none m k (suc (suc zero)) h = absurd (omega arith)
+among-none m k (suc (suc (suc zero))) h = absurd (omega arith)
+among-none m k (suc (suc (suc (suc zero)))) h = absurd (omega arith)
+among-none m k (suc (suc (suc (suc (suc zero))))) h = absurd (omega arith)
+among-none m k (suc (suc (suc (suc (suc (suc n)))))) h = refl
 
--- and, row, then: a pass over the operands
-pub record Passing (rows : List ℕ) (src : Source) (v fuel : ℕ) (q : Pattern) : Type 0 where
-  pub p : Pattern
-  pub ps : Patterns
-  pub kid : Fits rows (v + 1) p fuel
-  pub rest : Rest rows v fuel (nextOf rows (v + 1)) ps
-  pub is : (t : ℕ) → look src q t ≡ goF (first src p t) (λ f. pass (kindAt rows v) t (lookOf f 1) (evals (valuation src) ps))
+-- past the operators' numbers there is none
+pub no-operator : (m : Stretch → ℕ) (n k : ℕ) → 6 < n → operatorOf m n k ≡ none
+no-operator m zero k h = refl
+no-operator m (suc n) k h = among-none m k n (omega arith)
 
-pub record Lessing (rows : List ℕ) (src : Source) (v fuel : ℕ) (q : Pattern) : Type 0 where
-  pub p : Pattern
-  pub p' : Pattern
-  pub kid : Fits rows (v + 1) p fuel
-  pub other : Fits rows (nextOf rows (v + 1)) p' fuel
-  pub is : (t : ℕ) → look src q t ≡ goF (first src p t) (λ f. lookOf f (clearOf (first src p' (f .start)) f))
+module _ (src : Source) (rows : List ℕ) (v : ℕ) (lv : v < 32) where
+  pub by-kind : (k : ℕ) → kindAt rows v ≡ k → listOf src rows v ≡ apply (operatorOf (measured src) k (firstAt rows v)) (ownList src k (firstAt rows v) (secondAt rows v)) (operandsOf (given src rows) rows v)
+  by-kind k e =
+      list-node (given src rows) rows v lv
+      ∙ ap (λ (k : ℕ). apply (operatorOf (measured src) k (firstAt rows v)) (ownList src k (firstAt rows v) (secondAt rows v)) (operandsOf (given src rows) rows v)) e
 
-pub record Maxing (rows : List ℕ) (src : Source) (v fuel : ℕ) (q : Pattern) : Type 0 where
-  pub p : Pattern
-  pub kid : Fits rows (v + 1) p fuel
-  pub is : (t : ℕ) → look src q t ≡ goF (first src p t) (λ f. lookOf f (shortOf f (firstAt rows v)))
+  pub row-list : kindAt rows v ≡ 16 → listOf src rows v ≡ marks 0 (row (src .words) (firstAt rows v) (secondAt rows v))
+  row-list e = by-kind 16 e
 
--- and, then: tight looks
-pub record Narrowing (src : Source) (q : Pattern) : Type 0 where
+  pub lent-list : kindAt rows v ≡ 17 → listOf src rows v ≡ lent (src .items) (firstAt rows v) (secondAt rows v)
+  lent-list e = by-kind 17 e
+
+  pub or-list : kindAt rows v ≡ 1 → listOf src rows v ≡ answers op.Or (operandsOf (given src rows) rows v)
+  or-list e = by-kind 1 e
+
+  -- a kind that no list and no operator has
+  pub no-list : (kindAt rows v ≡ 0) ⊎ (6 < kindAt rows v) → (kindAt rows v ≡ 16 → ⊥) → (kindAt rows v ≡ 17 → ⊥) → listOf src rows v ≡ []
+  no-list (inl e) a b = by-kind 0 e
+  no-list (inr h) a b =
+      by-kind (kindAt rows v) refl
+      ∙ ap (λ o. apply o (ownList src (kindAt rows v) (firstAt rows v) (secondAt rows v)) (operandsOf (given src rows) rows v)) (no-operator (measured src) (kindAt rows v) (firstAt rows v) h)
+      ∙ ap (λ c. cond c (marks 0 (row (src .words) (firstAt rows v) (secondAt rows v))) (cond (eqb (kindAt rows v) 17) (lent (src .items) (firstAt rows v) (secondAt rows v)) [])) (ne-eqb (kindAt rows v) 16 a)
+      ∙ ap (λ c. cond c (lent (src .items) (firstAt rows v) (secondAt rows v)) []) (ne-eqb (kindAt rows v) 17 b)
+
+-- ── and, then: tight looks ──
+
+-- what narrowing needs of a node: its operator over fine lists, with tight looks
+pub record Narrowing (src : Source) (rows : List ℕ) (v : ℕ) : Type 0 where
   pub op : Op
   pub ls : List (List Stretch)
-  pub up : AllRising ls
-  pub ok : AllSound ls
-  pub is : (t : ℕ) → first src q t ≡ front (firstFrom (answers op ls) t)
-  pub tight : (t : ℕ) → TightLook op ls t (look src q t)
-  pub small : (s e : ℕ) (t : ℕ) → Tight op ls t s e → s < 65536
+  pub fines : AllFine 65536 ls
+  pub is : listOf src rows v ≡ answers op ls
+  pub tight : (t : ℕ) → TightLook op ls t (look src rows v t)
 
--- row, less, max: looks to be kept or passed over
-pub record Skipping (src : Source) (q : Pattern) : Type 0 where
-  pub is : (t : ℕ) → SkipLook (eval (valuation src) q) t (look src q t)
+-- a candidate lies below line 65,536
+pub small-cand : (o : Op) (ls : List (List Stretch)) → AllFine 65536 ls → (s e t : ℕ) → Tight o ls t s e → (s < 65536) × (e < 65536)
+small-cand o ls f s e t h =
+    let a = cand-sound o ls (f .sound) s e (h .cand) in
+    let b = cand-below o 65536 ls (f .below) s e (h .cand) in
+    (omega arith, b)
 
--- ── Operands by their number ──
+module _ (src : Source) (rows : List ℕ) (good : Good src rows) (v : ℕ) (lv : v < 32) where
+  -- a look by the node's kind
+  pub look-kind : (k t : ℕ) → kindAt rows v ≡ k → look src rows v t ≡ lookBy src k (firstAt rows v) (operandsOf (given src rows) rows v) t
+  unfolding look
+  look-kind k t e = ap (λ (k : ℕ). lookBy src k (firstAt rows v) (operandsOf (given src rows) rows v) t) e
 
-module _ (P : Patterns → Type 0) where
-  with-one : (ps : Patterns) → count ps ≡ 1 → ((p : Pattern) → P (Cons p Nil)) → P ps
-  with-one Nil e f = absurd (omega arith)
-  with-one (Cons p Nil) e f = f p
-  with-one (Cons p (Cons q ps)) e f = absurd (omega arith)
+  and-tight-look : (ls : List (List Stretch)) → AllFine 65536 ls → (t : ℕ) → TightLook op.And ls t (lookBy src 2 (firstAt rows v) ls t)
+  and-tight-look [] f t = t-none (λ s e c. absurd (c .picks))
+  and-tight-look (l ∷ ls) f t = and-look l ls f t
 
-  with-two : (ps : Patterns) → count ps ≡ 2 → ((p q : Pattern) → P (Cons p (Cons q Nil))) → P ps
-  with-two Nil e f = absurd (omega arith)
-  with-two (Cons p Nil) e f = absurd (omega arith)
-  with-two (Cons p (Cons q Nil)) e f = f p q
-  with-two (Cons p (Cons q (Cons r ps))) e f = absurd (omega arith)
+  then-tight-look : (ls : List (List Stretch)) → AllFine 65536 ls → (t : ℕ) → TightLook op.Then ls t (lookBy src 4 (firstAt rows v) ls t)
+  then-tight-look [] f t = t-none (λ s e c. absurd (c .picks))
+  then-tight-look (l ∷ ls) f t = then-look l ls f t
 
-  with-some : (ps : Patterns) → 1 ≤ count ps → ((p : Pattern) (ps : Patterns) → P (Cons p ps)) → P ps
-  with-some Nil e f = absurd (omega arith)
-  with-some (Cons p ps) e f = f p ps
+  pub narrowing : Narrows (kindAt rows v) → Narrowing src rows v
+  narrowing (inl k) = record {
+    op = op.And;
+    ls = operandsOf (given src rows) rows v;
+    fines = fine-operands src rows good v lv;
+    is = by-kind src rows v lv 2 k;
+    tight = λ t. subst (TightLook op.And (operandsOf (given src rows) rows v) t) (sym (look-kind 2 t k)) (and-tight-look (operandsOf (given src rows) rows v) (fine-operands src rows good v lv) t);
+  }
+  narrowing (inr k) = record {
+    op = op.Then;
+    ls = operandsOf (given src rows) rows v;
+    fines = fine-operands src rows good v lv;
+    is = by-kind src rows v lv 4 k;
+    tight = λ t. subst (TightLook op.Then (operandsOf (given src rows) rows v) t) (sym (look-kind 4 t k)) (then-tight-look (operandsOf (given src rows) rows v) (fine-operands src rows good v lv) t);
+  }
 
--- ── From a kind to its way ──
+  -- ── row and the filters: looks to be kept or passed over ──
 
-module _ (rows : List ℕ) (src : Source) (good : Good src) (v : ℕ) where
-  -- what holds of the symbol that the kind fixes holds of the node
-  by-kind : (P : Pattern → Type 0) (h : Symbol) (ps : Patterns) (k : ℕ) → Tree rows v (Node h ps) → Shaped (Node h ps) → kindAt rows v ≡ k
-      → (Arity (symbol k (firstAt rows v) (secondAt rows v)) (count ps) → P (Node (symbol k (firstAt rows v) (secondAt rows v)) ps)) → P (Node h ps)
-  by-kind P h ps k t s e f =
-      let z = symbol-is rows v h _ k (t .0) e in
-      subst (λ (x : Symbol). P (Node x ps)) (sym z) (f (subst (λ (x : Symbol). Arity x (count ps)) z (s .0)))
+  row-skip-look : (ls : List (List Stretch)) → AllFine 65536 ls → (t : ℕ) → SkipLook (answers op.Row ls) t (lookBy src 3 (firstAt rows v) ls t)
+  row-skip-look [] f t = k-none refl
+  row-skip-look (l ∷ ls) f t = row-look l ls f t
 
-  pub either : (fuel : ℕ) (q : Pattern) → Fits rows v q (fuel + 1) → kindAt rows v ≡ 1 → Either rows src v fuel q
-  unfolding first symbol
-  either fuel (Node h ps) f k = by-kind (Either rows src v fuel) h ps 1 (f .tree) (f .shape) k
-      (λ a. record { ps = ps; rest = operands rows v fuel h ps f; is = λ t. or-look (evals (valuation src) ps) (all-fine src good ps .rising) t })
+  less-skip-look : (ls : List (List Stretch)) → AllFine 65536 ls → (t : ℕ) → SkipLook (answers op.Less ls) t (lookBy src 5 (firstAt rows v) ls t)
+  less-skip-look [] f t = k-none refl
+  less-skip-look (l ∷ ls) f t = less-look src (firstAt rows v) l ls f t
 
-  -- the first operand and the others
-  passed : (fuel : ℕ) (h h' : Symbol) (ps : Patterns) → Fits rows v (Node h ps) (fuel + 1) → 1 ≤ count ps
-      → ((p : Pattern) (ps : Patterns) (t : ℕ) → look src (Node h' (Cons p ps)) t ≡ goF (first src p t) (λ f. pass (kindAt rows v) t (lookOf f 1) (evals (valuation src) ps)))
-      → Passing rows src v fuel (Node h' ps)
-  passed fuel h h' ps f some is = with-some (λ ps. Rest rows v fuel (v + 1) ps → Passing rows src v fuel (Node h' ps)) ps some
-      (λ p ps r. record { p = p; ps = ps; kid = rest-kid rows v fuel (v + 1) p ps r; rest = rest-next rows v fuel (v + 1) p ps r; is = is p ps })
-      (operands rows v fuel h ps f)
+  max-skip-look : (ls : List (List Stretch)) → AllFine 65536 ls → (t : ℕ) → SkipLook (answers (op.Max (measured src) (firstAt rows v)) ls) t (lookBy src 6 (firstAt rows v) ls t)
+  max-skip-look [] f t = k-none refl
+  max-skip-look (l ∷ ls) f t = max-look src (firstAt rows v) l ls f t
 
-  -- a pass of kind k is a pass of the node's kind
-  pass-kind : (k : ℕ) → kindAt rows v ≡ k → (p : Pattern) (ps : Patterns) (t : ℕ)
-      → goF (first src p t) (λ f. pass k t (lookOf f 1) (evals (valuation src) ps)) ≡ goF (first src p t) (λ f. pass (kindAt rows v) t (lookOf f 1) (evals (valuation src) ps))
-  pass-kind k e p ps t = ap (λ (k : ℕ). goF (first src p t) (λ f. pass k t (lookOf f 1) (evals (valuation src) ps))) (sym e)
+  skipping-by : (k : ℕ) → kindAt rows v ≡ k → ((ls : List (List Stretch)) → AllFine 65536 ls → (t : ℕ)
+      → SkipLook (apply (operatorOf (measured src) k (firstAt rows v)) (ownList src k (firstAt rows v) (secondAt rows v)) ls) t (lookBy src k (firstAt rows v) ls t))
+      → (t : ℕ) → SkipLook (listOf src rows v) t (look src rows v t)
+  skipping-by k e f t =
+      let ls = operandsOf (given src rows) rows v in
+      subst (λ (l : List Stretch). SkipLook l t (look src rows v t)) (sym (by-kind src rows v lv k e))
+      (subst (SkipLook (apply (operatorOf (measured src) k (firstAt rows v)) (ownList src k (firstAt rows v) (secondAt rows v)) ls) t) (sym (look-kind k t e)) (f ls (fine-operands src rows good v lv) t))
 
-  pub passing : (fuel : ℕ) (q : Pattern) → Fits rows v q (fuel + 1) → (kindAt rows v ≡ 2) ⊎ ((kindAt rows v ≡ 3) ⊎ (kindAt rows v ≡ 4)) → Passing rows src v fuel q
-  unfolding first look passAll symbol
-  passing fuel (Node h ps) f (inl k) = by-kind (Passing rows src v fuel) h ps 2 (f .tree) (f .shape) k
-      (λ a. passed fuel h _ ps f a (pass-kind 2 k))
-  passing fuel (Node h ps) f (inr (inl k)) = by-kind (Passing rows src v fuel) h ps 3 (f .tree) (f .shape) k
-      (λ a. passed fuel h _ ps f a (pass-kind 3 k))
-  passing fuel (Node h ps) f (inr (inr k)) = by-kind (Passing rows src v fuel) h ps 4 (f .tree) (f .shape) k
-      (λ a. passed fuel h _ ps f a (pass-kind 4 k))
-
-  pub lessing : (fuel : ℕ) (q : Pattern) → Fits rows v q (fuel + 1) → kindAt rows v ≡ 5 → Lessing rows src v fuel q
-  unfolding first look symbol
-  lessing fuel (Node h ps) f k = by-kind (Lessing rows src v fuel) h ps 5 (f .tree) (f .shape) k
-      (λ a. with-two (λ ps. Rest rows v fuel (v + 1) ps → Lessing rows src v fuel (Node Less ps)) ps a
-      (λ p q r. record {
-        p = p;
-        p' = q;
-        kid = rest-kid rows v fuel (v + 1) p (Cons q Nil) r;
-        other = rest-kid rows v fuel (nextOf rows (v + 1)) q Nil (rest-next rows v fuel (v + 1) p (Cons q Nil) r);
-        is = λ t. refl;
-      })
-      (operands rows v fuel h ps f))
-
-  pub maxing : (fuel : ℕ) (q : Pattern) → Fits rows v q (fuel + 1) → kindAt rows v ≡ 6 → Maxing rows src v fuel q
-  unfolding first look symbol
-  maxing fuel (Node h ps) f k = by-kind (Maxing rows src v fuel) h ps 6 (f .tree) (f .shape) k
-      (λ a. with-one (λ ps. Rest rows v fuel (v + 1) ps → Maxing rows src v fuel (Node (Max (firstAt rows v)) ps)) ps a
-      (λ p r. record { p = p; kid = rest-kid rows v fuel (v + 1) p Nil r; is = λ t. refl })
-      (operands rows v fuel h ps f))
-
-  small-cand : (o : Op) (ps : Patterns) (s e t : ℕ) → Tight o (evals (valuation src) ps) t s e → s < 65536
-  small-cand o ps s e t h =
-      let f = all-fine src good ps in
-      omega (arith, cand-sound o (evals (valuation src) ps) (f .sound) s e (h .cand), cand-below o 65536 (evals (valuation src) ps) (f .below) s e (h .cand))
-
-  pub narrowing : (q : Pattern) → Tree rows v q → Shaped q → Narrows (kindAt rows v) → Narrowing src q
-  unfolding first look symbol
-  narrowing (Node h ps) t s (inl k) = by-kind (Narrowing src) h ps 2 t s k
-      (λ a. with-some (λ ps. Narrowing src (Node (And (firstAt rows v)) ps)) ps a
-      (λ p ps. let f = all-fine src good (Cons p ps) in record {
-        op = op.And;
-        ls = evals (valuation src) (Cons p ps);
-        up = f .rising;
-        ok = f .sound;
-        is = λ t. refl;
-        tight = λ t. and-look (eval (valuation src) p) (evals (valuation src) ps) (f .rising) t;
-        small = small-cand op.And (Cons p ps);
-      }))
-  narrowing (Node h ps) t s (inr k) = by-kind (Narrowing src) h ps 4 t s k
-      (λ a. with-some (λ ps. Narrowing src (Node (Then (firstAt rows v)) ps)) ps a
-      (λ p ps. let f = all-fine src good (Cons p ps) in record {
-        op = op.Then;
-        ls = evals (valuation src) (Cons p ps);
-        up = f .rising;
-        ok = f .sound;
-        is = λ t. refl;
-        tight = λ t. then-look (eval (valuation src) p) (evals (valuation src) ps) (f .rising) (f .sound) (f .below) t;
-        small = small-cand op.Then (Cons p ps);
-      }))
-
-  pub skipping : (q : Pattern) → Tree rows v q → Shaped q → Skips (kindAt rows v) → Skipping src q
-  unfolding look symbol
-  skipping (Node h ps) t s (inl k) = by-kind (Skipping src) h ps 3 t s k
-      (λ a. with-some (λ ps. Skipping src (Node (Row (firstAt rows v)) ps)) ps a
-      (λ p ps. let f = all-fine src good (Cons p ps) in record { is = λ t. row-look (eval (valuation src) p) (evals (valuation src) ps) (f .rising) (f .sound) (f .below) t }))
-  skipping (Node h ps) t s (inr (inl k)) = by-kind (Skipping src) h ps 5 t s k
-      (λ a. with-two (λ ps. Skipping src (Node Less ps)) ps a
-      (λ p q. let f = fine src good p in record { is = λ t. less-look (eval (valuation src) p) (eval (valuation src) q) (f .rising) (f .sound) (f .below) (fine src good q .rising) t }))
-  skipping (Node h ps) t s (inr (inr k)) = by-kind (Skipping src) h ps 6 t s k
-      (λ a. with-one (λ ps. Skipping src (Node (Max (firstAt rows v)) ps)) ps a
-      (λ p. let f = fine src good p in record { is = λ t. max-look (firstAt rows v) (eval (valuation src) p) [] (f .rising) (f .sound) (f .below) t }))
+  pub skipping : Skips (kindAt rows v) → (t : ℕ) → SkipLook (listOf src rows v) t (look src rows v t)
+  skipping (inl k) = skipping-by 3 k row-skip-look
+  skipping (inr (inl k)) = skipping-by 5 k less-skip-look
+  skipping (inr (inr k)) = skipping-by 6 k max-skip-look

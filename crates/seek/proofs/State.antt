@@ -1,178 +1,133 @@
--- The state: what storing a front changes, that what is kept stays true, and what `seek` and `fresh` make of it. Each return is one law.
+-- The state: what storing a front changes, that what is kept stays true, and what `seek`, `renew` and `fresh` make of it. Each return is one law.
 -- Assumes nothing.
-use mathlib.Core.Path.{_≡_, refl, sym, ap, subst, subst₂, _∙_}
-use mathlib.Core.Logic.{_⊎_, _≢_, inl, inr, ⊎-elim}
+use mathlib.Core.Path.{_≡_, sym, ap, ap₂, subst, _∙_}
+use mathlib.Core.Logic.{_⊎_, _≢_, ⊎-elim}
 use mathlib.Core.List.{List}
-use Prim.Native.Nat.{ℕ, _+_, _-_, _*_, _≤_, _<_}
+use Prim.Native.Nat.{ℕ, _+_, _-_, _≤_, _<_}
 use native.Mathlib.Omega.{arith}
-use lib.ListN.{length, getD, set, length-set}
+use lib.ListN.{length, getD, set, replicate, length-set, length-replicate, getD-replicate}
 use lib.Seq.{getD-set-same, getD-set-other}
-use Rattle.stretches.specs.Stretch.{Stretch}
+use Rattle.stretches.specs.Stretch.{Stretch, Fine}
 use Rattle.stretches.specs.Front.{firstFrom}
+use Rattle.stretches.specs.Table.{kindAt, firstAt, secondAt}
 use Rattle.basics.proofs.Basics.{eq-or-ne}
-use Rattle.event_log.specs.Lines.{Cursor}
-use Rattle.pattern.specs.Pattern.{Symbol, Ev, Fr, Or, And, Row, Then, Less, Max, Pattern, Patterns, Node}
-use Rattle.pattern.specs.Rows.{kindOf, kindAt, Tree}
-use Rattle.meaning.specs.Meaning.{eval}
 use Rattle.seek.specs.declared.Front.{Front}
-use Rattle.seek.specs.Moves.{Serves, ended, ahead, heldAt, askedAt, putAt}
-use Rattle.seek.specs.Source.{Source, leafOf, valuation}
-use Rattle.seek.specs.Leaves.{Hinted, LeafFound}
-use Rattle.seek.specs.Seek.{Fits, Skips, front, first, Cursors, Ready, Found, Sought}
-use Rattle.seek.proofs.Shape.{depth-some, tree-one, kind-skips, kind-high, kind-room}
-use Rattle.seek.proofs.Nodes.{stays}
+use Rattle.seek.specs.Source.{Source, Good}
+use Rattle.seek.specs.Fronts.{atF, noneF, front, pastOf, Serves, heldAt, askedAt, putAt}
+use Rattle.seek.specs.Seek.{first, Ready, Sought}
+use Rattle.seek.specs.Leaves.{Hinted, ListFound, RowFound}
+use Rattle.seek.proofs.Looks.{past-is}
+use Rattle.seek.proofs.Nodes.{fine, first-small, stays, row-list, lent-list, no-list}
 
 -- ── What storing changes ──
 
-put-wide : (st : List ℕ) (v : ℕ) (f : Front) (t : ℕ) → length (putAt st v f t) ≡ length st
+put-wide : (s : List ℕ) (v : ℕ) (f : Front) (t : ℕ) → length (putAt s v f t) ≡ length s
 unfolding putAt
-put-wide st v f t = simp length-set
+put-wide s v f t = simp length-set
 
--- what lies outside of v's four numbers is kept
-put-other : (st : List ℕ) (v : ℕ) (f : Front) (t j : ℕ) → (j < 4 * v) ⊎ (4 * v + 3 < j) → getD (putAt st v f t) j 0 ≡ getD st j 0
+-- what lies outside of v's three numbers is kept
+put-other : (s : List ℕ) (v : ℕ) (f : Front) (t j : ℕ) → j ≢ v → j ≢ 32 + v → j ≢ 64 + v → getD (putAt s v f t) j 0 ≡ getD s j 0
 unfolding putAt
-put-other st v f t j out =
-    let w0 : j ≢ 4 * v = λ e. ⊎-elim (λ (h : j < 4 * v). omega arith) (λ (h : 4 * v + 3 < j). omega arith) out in
-    let w1 : j ≢ 4 * v + 1 = λ e. ⊎-elim (λ (h : j < 4 * v). omega arith) (λ (h : 4 * v + 3 < j). omega arith) out in
-    let w2 : j ≢ 4 * v + 2 = λ e. ⊎-elim (λ (h : j < 4 * v). omega arith) (λ (h : 4 * v + 3 < j). omega arith) out in
-    let w3 : j ≢ 4 * v + 3 = λ e. ⊎-elim (λ (h : j < 4 * v). omega arith) (λ (h : 4 * v + 3 < j). omega arith) out in
-    rw (getD-set-other, getD-set-other, getD-set-other, getD-set-other)
+put-other s v f t j a b c = rw (getD-set-other, getD-set-other, getD-set-other)
 
-module _ (st : List ℕ) (v : ℕ) (f : Front) (t : ℕ) (wide : length st ≡ 192) (lv : v < 32) where
-  put-status : getD (putAt st v f t) (4 * v) 0 ≡ f .status
+module _ (s : List ℕ) (v : ℕ) (f : Front) (t : ℕ) (wide : length s ≡ 128) (lv : v < 32) where
+  put-live : getD (putAt s v f t) v 0 ≡ pastOf (f .start)
   unfolding putAt
-  put-status =
-      let w1 : 4 * v ≢ 4 * v + 1 = λ e. omega arith in
-      let w2 : 4 * v ≢ 4 * v + 2 = λ e. omega arith in
-      let w3 : 4 * v ≢ 4 * v + 3 = λ e. omega arith in
-      let h : 4 * v < length st = omega arith in
-      rw (getD-set-other, getD-set-other, getD-set-other, getD-set-same)
-
-  put-start : getD (putAt st v f t) (4 * v + 1) 0 ≡ f .start
-  unfolding putAt
-  put-start =
-      let w2 : 4 * v + 1 ≢ 4 * v + 2 = λ e. omega arith in
-      let w3 : 4 * v + 1 ≢ 4 * v + 3 = λ e. omega arith in
-      let h : 4 * v + 1 < length (set st (4 * v) (f .status)) = simp length-set (omega arith) in
+  put-live =
+      let a : v ≢ 32 + v = λ e. omega arith in
+      let b : v ≢ 64 + v = λ e. omega arith in
+      let h : v < length s = omega arith in
       rw (getD-set-other, getD-set-other, getD-set-same)
 
-  put-end : getD (putAt st v f t) (4 * v + 2) 0 ≡ f .end
+  put-end : getD (putAt s v f t) (32 + v) 0 ≡ f .end
   unfolding putAt
   put-end =
-      let w3 : 4 * v + 2 ≢ 4 * v + 3 = λ e. omega arith in
-      let h : 4 * v + 2 < length (set (set st (4 * v) (f .status)) (4 * v + 1) (f .start)) = simp length-set (omega arith) in
+      let b : 32 + v ≢ 64 + v = λ e. omega arith in
+      let h : 32 + v < length (set s v (pastOf (f .start))) = simp length-set (omega arith) in
       rw (getD-set-other, getD-set-same)
 
-  put-asked : getD (putAt st v f t) (4 * v + 3) 0 ≡ t
+  put-asked : getD (putAt s v f t) (64 + v) 0 ≡ t
   unfolding putAt
   put-asked =
-      let h : 4 * v + 3 < length (set (set (set st (4 * v) (f .status)) (4 * v + 1) (f .start)) (4 * v + 2) (f .end)) = simp length-set (omega arith) in
+      let h : 64 + v < length (set (set s v (pastOf (f .start))) (32 + v) (f .end)) = simp length-set (omega arith) in
       rw getD-set-same
 
-  put-held : heldAt (putAt st v f t) v ≡ f
-  put-held = rw (put-status, put-start, put-end)
+  put-held : f .start ≤ 65536 → heldAt (putAt s v f t) v ≡ f
+  put-held le = let z : pastOf (f .start) - 1 ≡ f .start = omega (arith, past-is (f .start) le) in ap₂ atF (ap (λ (n : ℕ). n - 1) put-live ∙ z) put-end
 
-held-other : (st : List ℕ) (v : ℕ) (f : Front) (t u : ℕ) → (u < v) ⊎ (v < u) → heldAt (putAt st v f t) u ≡ heldAt st u
-held-other st v f t u out =
-    let o : (k : ℕ) → k < 4 → (4 * u + k < 4 * v) ⊎ (4 * v + 3 < 4 * u + k) = λ k lt. ⊎-elim (λ (h : u < v). inl (omega arith)) (λ (h : v < u). inr (omega arith)) out in
-    let o0 : (4 * u < 4 * v) ⊎ (4 * v + 3 < 4 * u) = ⊎-elim (λ (h : u < v). inl (omega arith)) (λ (h : v < u). inr (omega arith)) out in
-    cc (put-other st v f t (4 * u) o0, put-other st v f t (4 * u + 1) (o 1 (omega arith)), put-other st v f t (4 * u + 2) (o 2 (omega arith)))
-
-asked-other : (st : List ℕ) (v : ℕ) (f : Front) (t u : ℕ) → (u < v) ⊎ (v < u) → askedAt (putAt st v f t) u ≡ askedAt st u
-asked-other st v f t u out = put-other st v f t (4 * u + 3) (⊎-elim (λ (h : u < v). inl (omega arith)) (λ (h : v < u). inr (omega arith)) out)
-
--- the cursors stand past what is stored of nodes
-cursors-put : (src : Source) (st : List ℕ) (v : ℕ) (f : Front) (t : ℕ) → v < 32 → Cursors src st → Cursors src (putAt st v f t)
-cursors-put src st v f t lv c none u lu =
-    subst₂ (Cursor (src .log)) (sym (put-other st v f t (128 + u) (inr (omega arith)))) (sym (put-other st v f t (160 + u) (inr (omega arith)))) (c none u lu)
-
-ready-put : (rows : List ℕ) (src : Source) (st : List ℕ) (v : ℕ) (q : Pattern) (f : Front) (t : ℕ) → v < 32 → Tree rows v q → f ≡ first src q t → Ready rows src st → Ready rows src (putAt st v f t)
-ready-put rows src st v q f t lv tree e rdy = record {
-  good = rdy .good;
-  wide = put-wide st v f t ∙ rdy .wide;
-  holds = λ u q' lt tree' live. ⊎-elim
+ready-put : (src : Source) (rows s : List ℕ) (v : ℕ) (f : Front) (t : ℕ) → v < 32 → Good src rows → f ≡ first src rows v t → Ready src rows s → Ready src rows (putAt s v f t)
+ready-put src rows s v f t lv good e rdy = record {
+  wide = put-wide s v f t ∙ rdy .wide;
+  holds = λ u lt live. ⊎-elim
       (λ (z : u ≡ v).
-      let y : q ≡ q' = tree-one rows v q q' tree (subst (λ (w : ℕ). Tree rows w q') z tree') in
-      subst (λ (w : ℕ). first src q' (askedAt (putAt st v f t) w) ≡ heldAt (putAt st v f t) w) (sym z)
-      (ap (first src q') (put-asked st v f t (rdy .wide) lv) ∙ (ap (λ (p : Pattern). first src p t) (sym y) ∙ (sym e ∙ sym (put-held st v f t (rdy .wide) lv)))))
+      let le : f .start ≤ 65536 = subst (λ (g : Front). g .start ≤ 65536) (sym e) (first-small src rows good v lv t) in
+      subst (λ (w : ℕ). first src rows w (askedAt (putAt s v f t) w) ≡ heldAt (putAt s v f t) w) (sym z)
+      (ap (first src rows v) (put-asked s v f t (rdy .wide) lv) ∙ (sym e ∙ sym (put-held s v f t (rdy .wide) lv le))))
       (λ (o : (u < v) ⊎ (v < u)).
-      ap (first src q') (asked-other st v f t u o)
-      ∙ (rdy .holds u q' lt tree' (λ z. live (ap (λ (h : Front). h .status) (held-other st v f t u o) ∙ z)) ∙ sym (held-other st v f t u o)))
+      let ne : u ≢ v = λ z. ⊎-elim (λ (h : u < v). omega arith) (λ (h : v < u). omega arith) o in
+      let a = put-other s v f t u ne (λ z. omega arith) (λ z. omega arith) in
+      let b = put-other s v f t (32 + u) (λ z. omega arith) (λ z. ne (omega arith)) (λ z. omega arith) in
+      let c = put-other s v f t (64 + u) (λ z. omega arith) (λ z. omega arith) (λ z. ne (omega arith)) in
+      ap (first src rows u) c ∙ (rdy .holds u lt (subst (λ (n : ℕ). 0 < n) a live) ∙ sym (ap₂ atF (ap (λ (n : ℕ). n - 1) a) b)))
       (eq-or-ne u v);
-  cursors = cursors-put src st v f t lv (rdy .cursors);
 }
 
--- a state in which only hints and cursors changed
-ready-hinted : (rows : List ℕ) (src : Source) (st st' : List ℕ) → Hinted st st' → Cursors src st' → Ready rows src st → Ready rows src st'
-ready-hinted rows src st st' h c rdy = record {
-  good = rdy .good;
+-- a state in which only hints changed
+ready-hinted : (src : Source) (rows s s' : List ℕ) → Hinted s s' → Ready src rows s → Ready src rows s'
+ready-hinted src rows s s' h rdy = record {
   wide = h .wide ∙ rdy .wide;
-  holds = λ v q lt tree live.
-      let e : heldAt st' v ≡ heldAt st v = cc (h .same (4 * v) (omega arith), h .same (4 * v + 1) (omega arith), h .same (4 * v + 2) (omega arith)) in
-      ap (first src q) (h .same (4 * v + 3) (omega arith)) ∙ (rdy .holds v q lt tree (λ z. live (ap (λ (f : Front). f .status) e ∙ z)) ∙ sym e);
-  cursors = c;
+  holds = λ v lt live.
+      let a = h .same v (omega arith) in
+      ap (first src rows v) (h .same (64 + v) (omega arith))
+      ∙ (rdy .holds v lt (subst (λ (n : ℕ). 0 < n) a live) ∙ sym (ap₂ atF (ap (λ (n : ℕ). n - 1) a) (h .same (32 + v) (omega arith))));
 }
 
--- ── seek ──
+-- nothing is kept yet
+pub ready-none : (src : Source) (rows : List ℕ) → Ready src rows (replicate 128 0)
+ready-none src rows = record {
+  wide = length-replicate {A = ℕ} 128 0;
+  holds = λ v lt live. absurd (omega (arith, getD-replicate {A = ℕ} 128 v 0 0 (omega arith)));
+}
 
-live : (f : Front) (q t : ℕ) → Serves f q t → f .status ≡ 0 → ⊥
-live f q t (ended _ e) z = omega arith
-live f q t (ahead _ e _) z = omega arith
+-- ── seek and renew ──
 
 -- what is kept serves
-pub served : {rows : List ℕ} {src : Source} {st : List ℕ} {v t fuel : ℕ} {r : Front} {a : ℕ} → v < 32 → r ≡ heldAt st v → a ≡ askedAt st v → Serves r a t → Sought rows src st v t fuel r st
-served {rows} {src} {st} {v} {t} {fuel} {r} {a} lv e ea s = record {
-  found = λ q d rdy.
-      let s' : Serves (heldAt st v) (askedAt st v) t = subst (λ (n : ℕ). Serves (heldAt st v) n t) ea (subst (λ (f : Front). Serves f a t) e s) in
-      let h : first src q (askedAt st v) ≡ heldAt st v = rdy .holds v q lv (d .tree) (live _ _ _ s') in
-      let k : first src q t ≡ first src q (askedAt st v) = stays src (rdy .good) q (askedAt st v) t (subst (λ (f : Front). Serves f (askedAt st v) t) (sym h) s') in
-      record { is = cc; ready = rdy };
+pub served : {src : Source} {rows s : List ℕ} {v t : ℕ} {r : Front} → v < 32 → Serves s v t → r ≡ heldAt s v → Sought src rows s v t r s
+served {src} {rows} {s} {v} {t} {r} lv w e = record {
+  found = λ good rdy.
+      let h : first src rows v (askedAt s v) ≡ heldAt s v = rdy .holds v lv (omega (arith, w .live)) in
+      let z : t ≤ heldAt s v .start = omega (arith, w .live) in
+      let k : first src rows v t ≡ first src rows v (askedAt s v) = stays src rows good v lv (askedAt s v) t (w .asked) (subst (λ (f : Front). t ≤ f .start) (sym h) z) in
+      record { is = e ∙ (sym h ∙ sym k); ready = rdy };
 }
 
--- no tree is 0 deep
-pub spent : {rows : List ℕ} {src : Source} {st : List ℕ} {v t fuel : ℕ} {r : Front} → fuel ≡ 0 → Sought rows src st v t fuel r st
-spent z = record { found = λ q d rdy. absurd (omega (arith, depth-some q, d .low)) }
-
 -- what was found is stored
-pub stored : {rows : List ℕ} {src : Source} {st st' st'' : List ℕ} {v t fuel : ℕ} {r : Front} → v < 32 → (fuel ≡ 0 → ⊥) → Sought rows src st v t (fuel - 1 + 1) r st' → st'' ≡ putAt st' v r t
-    → Sought rows src st v t fuel r st''
-stored {rows} {src} {st} {st'} {st''} {v} {t} {fuel} {r} lv nz s e = record {
-  found = λ q d rdy.
-      let f = s .found q (record { tree = d .tree; shape = d .shape; room = d .room; low = omega (arith, nz, d .low) }) rdy in
-      record { is = f .is; ready = subst (Ready rows src) (sym e) (ready-put rows src st' v q r t lv (d .tree) (f .is) (f .ready)) };
+pub stored : {src : Source} {rows s s' s'' : List ℕ} {v t : ℕ} {r : Front} → v < 32 → Sought src rows s v t r s' → s'' ≡ putAt s' v r t → Sought src rows s v t r s''
+stored {src} {rows} {s} {s'} {s''} {v} {t} {r} lv w e = record {
+  found = λ good rdy. let f = w .found good rdy in record { is = f .is; ready = subst (Ready src rows) (sym e) (ready-put src rows s' v r t lv good (f .is) (f .ready)) };
 }
 
 -- ── fresh ──
 
--- a leaf's answers are its list
-leaf-eval : (src : Source) (h : Symbol) (ps : Patterns) → 16 ≤ kindOf h → eval (valuation src) (Node h ps) ≡ leafOf src h
-leaf-eval src (Ev c l) ps k = refl
-leaf-eval src (Fr f l) ps k = refl
-leaf-eval src (Or n) ps k = absurd (omega arith)
-leaf-eval src (And n) ps k = absurd (omega arith)
-leaf-eval src (Row n) ps k = absurd (omega arith)
-leaf-eval src (Then n) ps k = absurd (omega arith)
-leaf-eval src Less ps k = absurd (omega arith)
-leaf-eval src (Max n) ps k = absurd (omega arith)
-
-pub by-leaf : {rows : List ℕ} {src : Source} {st st' : List ℕ} {v t fuel : ℕ} {r : Front} → 16 ≤ kindAt rows v → LeafFound rows src v t st r st' → Sought rows src st v t fuel r st'
+pub by-row : {src : Source} {rows s : List ℕ} {v t : ℕ} {r : Front} → v < 32 → kindAt rows v ≡ 16 → RowFound (src .words) (firstAt rows v) (secondAt rows v) t r → Sought src rows s v t r s
 unfolding first
-by-leaf {rows} {src} {st} {st'} {v} {t} {fuel} {r} k l = record { found = go }
-  where
-    go : (q : Pattern) → Fits rows v q fuel → Ready rows src st → Found rows src q t r st'
-    go (Node h ps) d rdy =
-        let w = l .is h _ (d .tree .0) (rdy .good) (rdy .wide) (rdy .cursors) in
-        record {
-          is = w .0 ∙ ap (λ (m : List Stretch). front (firstFrom m t)) (sym (leaf-eval src h ps (omega (arith, d .tree .0 .kind))));
-          ready = ready-hinted rows src st st' (l .hinted) (w .1) rdy;
-        }
+by-row {src} {rows} {s} {v} {t} lv k f = record {
+  found = λ good rdy.
+      let z = row-list src rows v lv k in
+      record { is = f .is (subst (Fine 65536) z (fine src rows good v lv)) ∙ ap (λ (l : List Stretch). front (firstFrom l t)) (sym z); ready = rdy };
+}
 
--- a node with no room for an operand
-pub by-no-room : {rows : List ℕ} {src : Source} {st st' : List ℕ} {v t fuel : ℕ} {r : Front} → kindAt rows v < 16 → (kindAt rows v ≡ 1 → ⊥) → 31 ≤ v → Sought rows src st v t fuel r st'
-by-no-room {rows} {src} {st} {st'} {v} {t} {fuel} lt one ge =
-    record { found = λ q d rdy. absurd (omega (arith, kind-room rows v q fuel d (kind-high rows v q (d .tree) one) lt)) }
+pub by-list : {src : Source} {rows s s' : List ℕ} {v t : ℕ} {r : Front} → v < 32 → kindAt rows v ≡ 17 → ListFound (src .items) (firstAt rows v) (secondAt rows v) t s r s'
+    → Sought src rows s v t r s'
+unfolding first
+by-list {src} {rows} {s} {s'} {v} {t} lv k f = record {
+  found = λ good rdy.
+      let z = lent-list src rows v lv k in
+      record { is = f .is (subst (Fine 65536) z (fine src rows good v lv) .rising) ∙ ap (λ (l : List Stretch). front (firstFrom l t)) (sym z); ready = ready-hinted src rows s s' (f .hinted) rdy };
+}
 
--- every other kind that a tree has
-pub by-skip : {rows : List ℕ} {src : Source} {st st' : List ℕ} {v t fuel : ℕ} {r : Front} → kindAt rows v < 16 → (kindAt rows v ≡ 1 → ⊥) → (kindAt rows v ≡ 2 → ⊥) → (kindAt rows v ≡ 4 → ⊥)
-    → (Skips (kindAt rows v) → Sought rows src st v t fuel r st') → Sought rows src st v t fuel r st'
-by-skip {rows} {src} {st} {st'} {v} lt a b c s = record { found = λ q d rdy. s (kind-skips rows v q (d .tree) lt a b c) .found q d rdy }
+-- a kind that no list and no operator has
+pub by-none : {src : Source} {rows s : List ℕ} {v t : ℕ} {r : Front} → v < 32 → (kindAt rows v ≡ 0) ⊎ (6 < kindAt rows v) → (kindAt rows v ≡ 16 → ⊥) → (kindAt rows v ≡ 17 → ⊥) → r ≡ noneF
+    → Sought src rows s v t r s
+unfolding first
+by-none {src} {rows} {s} {v} {t} lv k a b e = record { found = λ good rdy. record { is = e ∙ ap (λ (l : List Stretch). front (firstFrom l t)) (sym (no-list src rows v lv k a b)); ready = rdy } }

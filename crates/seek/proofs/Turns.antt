@@ -1,234 +1,309 @@
--- The turns of `or` and of a pass over operands: what is left of the operands at each turn, and one law for each return and turn.
+-- The turns of `or`, of a span, of a chain and of a filter: what is left of the operands at each turn, and one law for each return and turn.
 -- Assumes nothing.
-use mathlib.Core.Path.{_≡_, sym, ap, subst, _∙_}
-use mathlib.Core.Logic.{_⊎_, inl, inr, ⊎-elim}
-use mathlib.Core.List.{List}
-use Prim.Native.Nat.{ℕ, _+_, _≤_, _<_}
+use mathlib.Core.Path.{_≡_, sym, ap, _∙_}
+use mathlib.Core.Logic.{inl, inr}
+use mathlib.Core.Bool.{Bool, true, false, not, cond, _&&_}
+use mathlib.Core.List.{List, [], _∷_}
+use Prim.Native.Nat.{ℕ, _+_, _≤_, _<_, min, max}
 use native.Mathlib.Omega.{arith}
-use borrow.Author.Tests.{eq-eqb, ne-eqb}
-use Rattle.basics.proofs.Basics.{eq-or-ne}
-use Rattle.pattern.specs.Pattern.{Pattern, Patterns, Nil, Cons}
-use Rattle.pattern.specs.Rows.{kindAt, firstAt}
-use Rattle.meaning.specs.Meaning.{evals}
+use lib.Dec.{leb, ltb, eqb}
+use borrow.Author.Tests.{lt-ltb, le-ltb, eq-eqb, ne-eqb}
+use Rattle.stretches.specs.Stretch.{Stretch, st}
+use Rattle.stretches.specs.Front.{firstFrom}
+use Rattle.stretches.specs.Table.{kindAt, firstAt, nextOf, stopOf, operandsFrom, operandsOf}
+use Rattle.stretches.proofs.Table.{stop-most, from-more, from-end}
 use Rattle.seek.specs.declared.Front.{Front}
 use Rattle.seek.specs.declared.fronts.Look.{Look}
-use Rattle.seek.specs.Moves.{noneF, noLook, lookOf, pickL, goF, nextOf, stopOf, betterOf, clearOf, shortOf, toOf, stepOf}
-use Rattle.seek.specs.Source.{Source, valuation}
-use Rattle.seek.specs.Seek.{Fits, first, pass, look, Ready, Sought, Seen, Looked}
-use Rattle.seek.proofs.Shape.{nodes-some, Rest, rest-kid, rest-next}
-use Rattle.seek.proofs.Best.{bestFrom}
-use Rattle.seek.proofs.Nodes.{either, Passing, passing, lessing, maxing}
+use Rattle.seek.specs.Source.{Source, measured, given, listOf, Good}
+use Rattle.seek.specs.Fronts.{atF, noneF, front, pastOf, lookOf, noLook, goF, betterOf}
+use Rattle.seek.specs.Seek.{first, spanFrom, chainFrom, clears, passes, others, lookBy, look, Ready, Sought, Looked, Passed, Tested, Chains, Filters}
+use Rattle.seek.proofs.Best.{bestFrom, or-look}
+use Rattle.seek.proofs.Nodes.{fine-operands, or-list, look-kind}
+
+-- ── What is left of the operands ──
+
+-- v's operands from c on
+abbrev pub left : Source → List ℕ → ℕ → ℕ → List (List Stretch)
+left src rows v c = operandsFrom (given src rows) rows (stopOf rows v) c
+
+left-more : (src : Source) (rows : List ℕ) (v c : ℕ) → v < 32 → c < stopOf rows v → left src rows v c ≡ listOf src rows c ∷ left src rows v (nextOf rows c)
+left-more src rows v c lv lt = from-more (given src rows) rows (stopOf rows v) c lt (stop-most rows v (omega arith))
+
+left-end : (src : Source) (rows : List ℕ) (v c : ℕ) → stopOf rows v ≤ c → left src rows v c ≡ []
+left-end src rows v c le = from-end (given src rows) rows (stopOf rows v) c le
 
 -- ── or ──
 
-pub record OrRest (rows : List ℕ) (src : Source) (v t fuel c : ℕ) (best r : Front) : Type 0 where
-  pub ps : Patterns
-  pub rest : Rest rows v fuel c ps
-  pub is : bestFrom t best (evals (valuation src) ps) ≡ r
-
-record OrStep (rows : List ℕ) (src : Source) (v t fuel c : ℕ) (best r : Front) : Type 0 where
-  p : Pattern
-  kid : Fits rows c p fuel
-  on : OrRest rows src v t fuel (nextOf rows c) (betterOf best (first src p t)) r
-
-module _ (rows : List ℕ) (src : Source) (v t fuel c : ℕ) (best r : Front) where
-  or-step : (ps : Patterns) → Rest rows v fuel c ps → bestFrom t best (evals (valuation src) ps) ≡ r → c < stopOf rows v → OrStep rows src v t fuel c best r
-  unfolding bestFrom first
-  or-step Nil s e lt = absurd (omega (arith, s .stop))
-  or-step (Cons p ps) s e lt = record { p = p; kid = rest-kid rows v fuel c p ps s; on = record { ps = ps; rest = rest-next rows v fuel c p ps s; is = e } }
-
-  or-stop : (ps : Patterns) → Rest rows v fuel c ps → bestFrom t best (evals (valuation src) ps) ≡ r → stopOf rows v ≤ c → best ≡ r
-  unfolding bestFrom
-  or-stop Nil s e le = e
-  or-stop (Cons p ps) s e le = absurd (omega (arith, s .stop, nodes-some p))
-
 -- the best of the operands before c is `best`
-pub record OrInv (rows : List ℕ) (src : Source) (st₀ : List ℕ) (v t fuel : ℕ) (st : List ℕ) (c : ℕ) (best : Front) : Type 0 where
-  pub at : (q : Pattern) → kindAt rows v ≡ 1 → Fits rows v q (fuel + 1) → Ready rows src st₀ → Ready rows src st × OrRest rows src v t fuel c best (first src q t)
+pub record OrInv (src : Source) (rows s₀ : List ℕ) (v t : ℕ) (s : List ℕ) (c : ℕ) (best : Front) : Type 0 where
+  pub at : kindAt rows v ≡ 1 → Good src rows → Ready src rows s₀ → Ready src rows s × (bestFrom t best (left src rows v c) ≡ first src rows v t)
 
-pub or-start : {rows : List ℕ} {src : Source} {st : List ℕ} {v t fuel : ℕ} {r : Front} → r ≡ noneF → OrInv rows src st v t fuel st (v + 1) r
-or-start {rows} {src} {st} {v} {t} {fuel} e = record {
-  at = λ q k d rdy.
-      let w = either rows src (rdy .good) v fuel q d k in
-      (rdy, record { ps = w .ps; rest = w .rest; is = ap (λ (f : Front). bestFrom t f (evals (valuation src) (w .ps))) e ∙ w .is t });
-}
-
-pub or-turn : {rows : List ℕ} {src : Source} {st₀ : List ℕ} {v t fuel : ℕ} {st st' : List ℕ} {c c' : ℕ} {best best' f : Front} → OrInv rows src st₀ v t fuel st c best
-    → c < stopOf rows v → Sought rows src st c t fuel f st' → best' ≡ betterOf best f → c' ≡ nextOf rows c → OrInv rows src st₀ v t fuel st' c' best'
-or-turn {rows} {src} {st₀} {v} {t} {fuel} {st} {st'} {c} {c'} {best} {best'} {f} inv lt s eb ec = record {
-  at = λ q k d rdy.
-      let i = inv .at q k d rdy in
-      let m = or-step rows src v t fuel c best (first src q t) (i .1 .ps) (i .1 .rest) (i .1 .is) lt in
-      let g = s .found (m .p) (m .kid) (i .0) in
-      let e : best' ≡ betterOf best (first src (m .p) t) = eb ∙ ap (betterOf best) (g .is) in (
-        g .ready,
-        subst (λ (f' : Front). OrRest rows src v t fuel c' f' (first src q t)) (sym e)
-            (subst (λ (n : ℕ). OrRest rows src v t fuel n (betterOf best (first src (m .p) t)) (first src q t)) (sym ec) (m .on)),
+pub or-start : {src : Source} {rows s : List ℕ} {v t : ℕ} {r : Front} → v < 32 → r ≡ noneF → OrInv src rows s v t s (v + 1) r
+unfolding first
+or-start {src} {rows} {s} {v} {t} lv e = record {
+  at = λ k good rdy.
+      let f = fine-operands src rows good v lv in (
+        rdy,
+        ap (λ (x : Front). bestFrom t x (left src rows v (v + 1))) e ∙ or-look (operandsOf (given src rows) rows v) (f .rising) (f .below) t
+            ∙ ap (λ (l : List Stretch). front (firstFrom l t)) (sym (or-list src rows v lv k)),
       );
 }
 
-pub or-end : {rows : List ℕ} {src : Source} {st₀ : List ℕ} {v t fuel : ℕ} {st : List ℕ} {c : ℕ} {best : Front} → OrInv rows src st₀ v t fuel st c best → stopOf rows v ≤ c
-    → kindAt rows v ≡ 1 → Sought rows src st₀ v t (fuel + 1) best st
-or-end {rows} {src} {st₀} {v} {t} {fuel} {st} {c} {best} inv le k = record {
-  found = λ q d rdy.
-      let i = inv .at q k d rdy in
-      record { is = or-stop rows src v t fuel c best (first src q t) (i .1 .ps) (i .1 .rest) (i .1 .is) le; ready = i .0 };
-}
-
--- ── A pass over the operands ──
-
-abbrev statusF : Front → ℕ
-statusF f = f .status
-
-go-some : (f : Front) (k : Front → Look) → f .status ≡ 1 → goF f k ≡ k f
-unfolding goF
-go-some f k e = ap (λ b. pickL b (k f) noLook) (eq-eqb (f .status) 1 e)
-
-go-none : (f : Front) (k : Front → Look) → (f .status ≡ 1 → ⊥) → goF f k ≡ noLook
-unfolding goF
-go-none f k n = ap (λ b. pickL b (k f) noLook) (ne-eqb (f .status) 1 n)
-
--- where the first operand has no front, a look that goes on from it finds nothing
-first-gone : {rows : List ℕ} {src : Source} {st st' : List ℕ} {c t fuel : ℕ} {a : Front} {r : Look} {q p : Pattern} → Sought rows src st c t fuel a st' → (a .status ≡ 1 → ⊥) → r ≡ noLook
-    → Fits rows c p fuel → ((first src p t .status ≡ 1 → ⊥) → look src q t ≡ noLook) → Ready rows src st → Seen rows src q t r st'
-first-gone {p = p} s n e kid none rdy = let g = s .found p kid rdy in record { is = e ∙ sym (none (λ z. n (ap statusF (g .is) ∙ z))); ready = g .ready }
-
-pub record PassRest (rows : List ℕ) (src : Source) (v t fuel c : ℕ) (h r : Look) : Type 0 where
-  pub ps : Patterns
-  pub rest : Rest rows v fuel c ps
-  pub is : pass (kindAt rows v) t h (evals (valuation src) ps) ≡ r
-
-record PassStep (rows : List ℕ) (src : Source) (v t fuel c : ℕ) (h r : Look) : Type 0 where
-  p : Pattern
-  ps : Patterns
-  kid : Fits rows c p fuel
-  rest : Rest rows v fuel (nextOf rows c) ps
-  is : goF (first src p (toOf (kindAt rows v) t h)) (λ f. pass (kindAt rows v) t (stepOf (kindAt rows v) h f) (evals (valuation src) ps)) ≡ r
-
-module _ (rows : List ℕ) (src : Source) (v t fuel c : ℕ) (h r : Look) where
-  pass-step : (ps : Patterns) → Rest rows v fuel c ps → pass (kindAt rows v) t h (evals (valuation src) ps) ≡ r → c < stopOf rows v → PassStep rows src v t fuel c h r
-  unfolding pass first
-  pass-step Nil s e lt = absurd (omega (arith, s .stop))
-  pass-step (Cons p ps) s e lt = record { p = p; ps = ps; kid = rest-kid rows v fuel c p ps s; rest = rest-next rows v fuel c p ps s; is = e }
-
-  pass-over : (ps : Patterns) → Rest rows v fuel c ps → pass (kindAt rows v) t h (evals (valuation src) ps) ≡ r → stopOf rows v ≤ c → h ≡ r
-  unfolding pass
-  pass-over Nil s e le = e
-  pass-over (Cons p ps) s e le = absurd (omega (arith, s .stop, nodes-some p))
-
--- and, row, then
-passes : {k : ℕ} → 2 ≤ k → k ≤ 4 → (k ≡ 2) ⊎ ((k ≡ 3) ⊎ (k ≡ 4))
-passes {k} lo hi = ⊎-elim (λ (e : k ≡ 3). inr (inl e)) (λ (o : (k < 3) ⊎ (3 < k)). ⊎-elim (λ (l : k < 3). inl (omega arith)) (λ (g : 3 < k). inr (inr (omega arith))) o) (eq-or-ne k 3)
-
-pub pass-none : {rows : List ℕ} {src : Source} {st st' : List ℕ} {v t fuel : ℕ} {h : Front} {r : Look} → Sought rows src st (v + 1) t fuel h st' → (h .status ≡ 1 → ⊥) → r ≡ noLook
-    → kindAt rows v ≤ 4 → 2 ≤ kindAt rows v → Looked rows src st v t fuel r st'
-pass-none {rows} {src} {st} {st'} {v} {t} {fuel} s n e hi lo = record { seen = λ q _ _ d rdy. let w = passing rows src (rdy .good) v fuel q d (passes lo hi) in first-gone s n e (w .kid) (λ z. w .is t ∙ go-none _ _ z) rdy }
-
--- h is what was passed of the operands before c, where the first was found and made h₀
-pub record PassInv (rows : List ℕ) (src : Source) (st₀ : List ℕ) (v t fuel : ℕ) (h₀ : Look) (st : List ℕ) (c : ℕ) (h : Look) : Type 0 where
-  pub at : (q : Pattern) (w : Passing rows src v fuel q) → Ready rows src st₀ → first src (w .p) t .status ≡ 1 → h₀ ≡ lookOf (first src (w .p) t) 1
-      → Ready rows src st × PassRest rows src v t fuel c h (look src q t)
-
-pub pass-start : {rows : List ℕ} {src : Source} {st : List ℕ} {v t fuel : ℕ} {h : Look} {c : ℕ} → c ≡ nextOf rows (v + 1) → PassInv rows src st v t fuel h st c h
-pass-start {rows} {src} {st} {v} {t} {fuel} {h} {c} ec = record {
-  at = λ q w rdy one e. (
-    rdy,
-    record {
-      ps = w .ps;
-      rest = subst (λ (n : ℕ). Rest rows v fuel n (w .ps)) (sym ec) (w .rest);
-      is = ap (λ (f : Look). pass (kindAt rows v) t f (evals (valuation src) (w .ps))) e
-          ∙ sym (w .is t ∙ go-some (first src (w .p) t) (λ f. pass (kindAt rows v) t (lookOf f 1) (evals (valuation src) (w .ps))) one);
-    },
-  );
-}
-
-pub pass-turn : {rows : List ℕ} {src : Source} {st₀ : List ℕ} {v t fuel : ℕ} {h₀ : Look} {st st' : List ℕ} {c c' : ℕ} {h h' : Look} {f : Front} {a : ℕ} → PassInv rows src st₀ v t fuel h₀ st c h
-    → c < stopOf rows v → a ≡ toOf (kindAt rows v) t h → Sought rows src st c a fuel f st' → f .status ≡ 1 → h' ≡ stepOf (kindAt rows v) h f → c' ≡ nextOf rows c
-    → PassInv rows src st₀ v t fuel h₀ st' c' h'
-pass-turn {rows} {src} {st₀} {v} {t} {fuel} {h₀} {st} {st'} {c} {c'} {h} {h'} {f} {a} inv lt ea s one eh ec = record {
-  at = λ q w rdy o e.
-      let i = inv .at q w rdy o e in
-      let m = pass-step rows src v t fuel c h (look src q t) (i .1 .ps) (i .1 .rest) (i .1 .is) lt in
-      let g = s .found (m .p) (m .kid) (i .0) in
-      let gi : f ≡ first src (m .p) (toOf (kindAt rows v) t h) = g .is ∙ ap (first src (m .p)) ea in
-      let one' : first src (m .p) (toOf (kindAt rows v) t h) .status ≡ 1 = ap statusF (sym gi) ∙ one in
-      let e' : h' ≡ stepOf (kindAt rows v) h (first src (m .p) (toOf (kindAt rows v) t h)) = eh ∙ ap (stepOf (kindAt rows v) h) gi in (
+pub or-turn : {src : Source} {rows s₀ : List ℕ} {v t : ℕ} {s s' : List ℕ} {c c' : ℕ} {best best' f : Front} → v < 32 → OrInv src rows s₀ v t s c best → c < stopOf rows v
+    → Sought src rows s c t f s' → best' ≡ betterOf best f → c' ≡ nextOf rows c → OrInv src rows s₀ v t s' c' best'
+unfolding first bestFrom
+or-turn {src} {rows} {s₀} {v} {t} {s} {s'} {c} {c'} {best} {best'} {f} lv inv lt w eb ec = record {
+  at = λ k good rdy.
+      let i = inv .at k good rdy in
+      let g = w .found good (i .0) in
+      let e : best' ≡ betterOf best (front (firstFrom (listOf src rows c) t)) = eb ∙ ap (betterOf best) (g .is) in (
         g .ready,
+        ap (λ (x : Front). bestFrom t x (left src rows v c')) e ∙ ap (λ (n : ℕ). bestFrom t (betterOf best (front (firstFrom (listOf src rows c) t))) (left src rows v n)) ec
+            ∙ (sym (ap (bestFrom t best) (left-more src rows v c lv lt)) ∙ i .1),
+      );
+}
+
+pub or-end : {src : Source} {rows s₀ : List ℕ} {v t : ℕ} {s : List ℕ} {c : ℕ} {best : Front} → OrInv src rows s₀ v t s c best → stopOf rows v ≤ c → kindAt rows v ≡ 1 → Sought src rows s₀ v t best s
+unfolding bestFrom
+or-end {src} {rows} {s₀} {v} {t} {s} {c} {best} inv le k = record {
+  found = λ good rdy. let i = inv .at k good rdy in record { is = sym (ap (bestFrom t best) (left-end src rows v c le)) ∙ i .1; ready = i .0 };
+}
+
+-- ── Looks ──
+
+go-some : (f : Front) (k : Front → Look) → f .start < 65536 → goF f k ≡ k f
+unfolding goF
+go-some f k e = ap (λ b. cond b (k f) noLook) (lt-ltb (f .start) 65536 e)
+
+go-none : (f : Front) (k : Front → Look) → 65536 ≤ f .start → goF f k ≡ noLook
+unfolding goF
+go-none f k n = ap (λ b. cond b (k f) noLook) (le-ltb (f .start) 65536 n)
+
+-- a node without operands
+pub look-none : {src : Source} {rows s : List ℕ} {v t : ℕ} {r : Look} → stopOf rows v ≤ v + 1 → r ≡ noLook → Looked src rows s v t r s
+unfolding look
+look-none {src} {rows} {s} {v} {t} le e = record {
+  seen = λ good rdy. record { is = e ∙ sym (ap (λ (ls : List (List Stretch)). lookBy src (kindAt rows v) (firstAt rows v) ls t) (left-end src rows v (v + 1) le)); ready = rdy };
+}
+
+-- ── and: a span ──
+
+-- [m..e] is the span of the operands before c
+pub record SpanInv (src : Source) (rows s₀ : List ℕ) (v t : ℕ) (s : List ℕ) (m e c : ℕ) : Type 0 where
+  pub at : kindAt rows v ≡ 2 → Good src rows → Ready src rows s₀ → Ready src rows s × (spanFrom t (atF m e) (left src rows v c) ≡ look src rows v t)
+
+pub span-start : {src : Source} {rows s : List ℕ} {v t : ℕ} → v < 32 → v + 1 < stopOf rows v → SpanInv src rows s v t s 65536 0 (v + 1)
+unfolding look
+span-start {src} {rows} {s} {v} {t} lv some = record {
+  at = λ k good rdy.
+      let z = left-more src rows v (v + 1) lv some in
+      (rdy, ap (spanFrom t (atF 65536 0)) z ∙ sym (look-kind src rows good v lv 2 t k ∙ ap (λ (ls : List (List Stretch)). lookBy src 2 (firstAt rows v) ls t) z));
+}
+
+module _ {src : Source} {rows s₀ : List ℕ} {v t : ℕ} {s s' : List ℕ} {m e c : ℕ} {f : Front} (lv : v < 32) (inv : SpanInv src rows s₀ v t s m e c) (lt : c < stopOf rows v) (w : Sought src rows s c t f s') where
+  -- the span goes on with the front at c
+  span-step : kindAt rows v ≡ 2 → Good src rows → Ready src rows s₀
+      → Ready src rows s' × (goF f (λ x. spanFrom t (atF (min m (x .start)) (max e (x .end))) (left src rows v (nextOf rows c))) ≡ look src rows v t)
+  unfolding spanFrom first
+  span-step k good rdy =
+      let i = inv .at k good rdy in
+      let g = w .found good (i .0) in (
+        g .ready,
+        ap (λ (y : Front). goF y (λ x. spanFrom t (atF (min m (x .start)) (max e (x .end))) (left src rows v (nextOf rows c)))) (g .is)
+            ∙ (sym (ap (spanFrom t (atF m e)) (left-more src rows v c lv lt)) ∙ i .1),
+      )
+
+  pub span-turn : {m' e' c' : ℕ} → f .start < 65536 → m' ≡ min m (f .start) → e' ≡ max e (f .end) → c' ≡ nextOf rows c → SpanInv src rows s₀ v t s' m' e' c'
+  span-turn {m'} {e'} {c'} one em ee ec = record {
+    at = λ k good rdy.
+        let i = span-step k good rdy in (
+          i .0,
+          ap (λ (n : ℕ). spanFrom t (atF n e') (left src rows v c')) em ∙ ap (λ (n : ℕ). spanFrom t (atF (min m (f .start)) n) (left src rows v c')) ee
+              ∙ ap (λ (n : ℕ). spanFrom t (atF (min m (f .start)) (max e (f .end))) (left src rows v n)) ec
+              ∙ (sym (go-some f (λ x. spanFrom t (atF (min m (x .start)) (max e (x .end))) (left src rows v (nextOf rows c))) one) ∙ i .1),
+        );
+  }
+
+  pub span-gone : {r : Look} → 65536 ≤ f .start → r ≡ noLook → kindAt rows v ≡ 2 → Looked src rows s₀ v t r s'
+  span-gone n er k = record {
+    seen = λ good rdy. let i = span-step k good rdy in record { is = er ∙ (sym (go-none f (λ x. spanFrom t (atF (min m (x .start)) (max e (x .end))) (left src rows v (nextOf rows c))) n) ∙ i .1); ready = i .0 };
+  }
+
+pub span-end : {src : Source} {rows s₀ : List ℕ} {v t : ℕ} {s : List ℕ} {m e c : ℕ} {r : Look} → SpanInv src rows s₀ v t s m e c → stopOf rows v ≤ c → r ≡ lookOf m e true → kindAt rows v ≡ 2
+    → Looked src rows s₀ v t r s
+unfolding spanFrom
+span-end {src} {rows} {s₀} {v} {t} {s} {m} {e} {c} inv le er k = record {
+  seen = λ good rdy. let i = inv .at k good rdy in record { is = er ∙ (sym (ap (spanFrom t (atF m e)) (left-end src rows v c le)) ∙ i .1); ready = i .0 };
+}
+
+-- ── row and then: a chain ──
+
+-- whether the node's chain is tight
+abbrev pub tightAt : List ℕ → ℕ → Bool
+tightAt rows v = eqb (kindAt rows v) 3
+
+module _ {src : Source} {rows s s₁ : List ℕ} {v t : ℕ} {a : Front} (lv : v < 32) (some : v + 1 < stopOf rows v) (w : Sought src rows s (v + 1) t a s₁) where
+  -- a look begins with the first operand's front
+  chain-first : Chains (kindAt rows v) → Good src rows → Ready src rows s
+      → Ready src rows s₁ × (goF a (λ f. chainFrom (tightAt rows v) (f .start) (f .end) (left src rows v (nextOf rows (v + 1)))) ≡ look src rows v t)
+  unfolding first
+  chain-first k good rdy =
+      let g = w .found good rdy in
+      let z = left-more src rows v (v + 1) lv some in
+      (g .ready, ap (λ (x : Front). goF x (λ f. chainFrom (tightAt rows v) (f .start) (f .end) (left src rows v (nextOf rows (v + 1))))) (g .is) ∙ by k good z)
+    where
+      by : Chains (kindAt rows v) → Good src rows → left src rows v (v + 1) ≡ listOf src rows (v + 1) ∷ left src rows v (nextOf rows (v + 1))
+          → goF (front (firstFrom (listOf src rows (v + 1)) t)) (λ f. chainFrom (tightAt rows v) (f .start) (f .end) (left src rows v (nextOf rows (v + 1)))) ≡ look src rows v t
+      by (inl k) good z =
+          ap (λ b. goF (front (firstFrom (listOf src rows (v + 1)) t)) (λ f. chainFrom b (f .start) (f .end) (left src rows v (nextOf rows (v + 1))))) (eq-eqb (kindAt rows v) 3 k)
+          ∙ sym (look-kind src rows good v lv 3 t k ∙ ap (λ (ls : List (List Stretch)). lookBy src 3 (firstAt rows v) ls t) z)
+      by (inr k) good z =
+          ap (λ b. goF (front (firstFrom (listOf src rows (v + 1)) t)) (λ f. chainFrom b (f .start) (f .end) (left src rows v (nextOf rows (v + 1))))) (ne-eqb (kindAt rows v) 3 (λ z. omega arith))
+          ∙ sym (look-kind src rows good v lv 4 t k ∙ ap (λ (ls : List (List Stretch)). lookBy src 4 (firstAt rows v) ls t) z)
+
+  pub chain-gone : {r : Look} → 65536 ≤ a .start → r ≡ noLook → Chains (kindAt rows v) → Looked src rows s v t r s₁
+  chain-gone n er k = record {
+    seen = λ good rdy. let i = chain-first k good rdy in record { is = er ∙ (sym (go-none a (λ f. chainFrom (tightAt rows v) (f .start) (f .end) (left src rows v (nextOf rows (v + 1)))) n) ∙ i .1); ready = i .0 };
+  }
+
+  pub chain-some : a .start < 65536 → Chains (kindAt rows v) → Good src rows → Ready src rows s
+      → Ready src rows s₁ × (chainFrom (tightAt rows v) (a .start) (a .end) (left src rows v (nextOf rows (v + 1))) ≡ look src rows v t)
+  chain-some one k good rdy =
+      let i = chain-first k good rdy in
+      (i .0, sym (go-some a (λ f. chainFrom (tightAt rows v) (f .start) (f .end) (left src rows v (nextOf rows (v + 1)))) one) ∙ i .1)
+
+-- the chain from m on has come to e; s₁ and e₁ are the state and the end where the loop began
+pub record ChainInv (src : Source) (rows s₁ : List ℕ) (v t m e₁ : ℕ) (s : List ℕ) (e c : ℕ) : Type 0 where
+  pub at : Good src rows → Ready src rows s₁ → chainFrom (tightAt rows v) m e₁ (left src rows v (nextOf rows (v + 1))) ≡ look src rows v t
+      → Ready src rows s × (chainFrom (tightAt rows v) m e (left src rows v c) ≡ look src rows v t)
+
+pub chain-start : {src : Source} {rows s : List ℕ} {v t m e c : ℕ} → c ≡ nextOf rows (v + 1) → ChainInv src rows s v t m e s e c
+chain-start {src} {rows} {s} {v} {t} {m} {e} {c} ec = record { at = λ good rdy i. (rdy, ap (λ (n : ℕ). chainFrom (tightAt rows v) m e (left src rows v n)) ec ∙ i) }
+
+module _ {src : Source} {rows s₁ : List ℕ} {v t m e₁ : ℕ} {s s' : List ℕ} {e c to : ℕ} {f : Front}
+    (lv : v < 32) (inv : ChainInv src rows s₁ v t m e₁ s e c) (lt : c < stopOf rows v) (et : to ≡ pastOf e) (w : Sought src rows s c to f s') where
+  -- the chain goes on with the front at c
+  chain-step : Good src rows → Ready src rows s₁ → chainFrom (tightAt rows v) m e₁ (left src rows v (nextOf rows (v + 1))) ≡ look src rows v t
+      → Ready src rows s' × (goF f (λ x. cond (tightAt rows v && not (eqb (x .start) to)) (lookOf m e false) (chainFrom (tightAt rows v) m (x .end) (left src rows v (nextOf rows c)))) ≡ look src rows v t)
+  unfolding chainFrom first
+  chain-step good rdy i₁ =
+      let i = inv .at good rdy i₁ in
+      let g = w .found good (i .0) in (
+        g .ready,
+        ap (λ (y : Front). goF y (λ x. cond (tightAt rows v && not (eqb (x .start) to)) (lookOf m e false) (chainFrom (tightAt rows v) m (x .end) (left src rows v (nextOf rows c))))) (g .is)
+            ∙ ap (λ (n : ℕ). goF (front (firstFrom (listOf src rows c) n)) (λ x. cond (tightAt rows v && not (eqb (x .start) n)) (lookOf m e false) (chainFrom (tightAt rows v) m (x .end) (left src rows v (nextOf rows c))))) et
+            ∙ (sym (ap (chainFrom (tightAt rows v) m e) (left-more src rows v c lv lt)) ∙ i .1),
+      )
+
+  module _ (one : f .start < 65536) where
+    chain-over : (b : Bool) → (tightAt rows v && not (eqb (f .start) to)) ≡ b → Good src rows → Ready src rows s₁ → chainFrom (tightAt rows v) m e₁ (left src rows v (nextOf rows (v + 1))) ≡ look src rows v t
+        → Ready src rows s' × (cond b (lookOf m e false) (chainFrom (tightAt rows v) m (f .end) (left src rows v (nextOf rows c))) ≡ look src rows v t)
+    chain-over b eb good rdy i₁ =
+        let i = chain-step good rdy i₁ in (
+          i .0,
+          sym (ap (λ b. cond b (lookOf m e false) (chainFrom (tightAt rows v) m (f .end) (left src rows v (nextOf rows c)))) eb)
+              ∙ (sym (go-some f (λ x. cond (tightAt rows v && not (eqb (x .start) to)) (lookOf m e false) (chainFrom (tightAt rows v) m (x .end) (left src rows v (nextOf rows c)))) one) ∙ i .1),
+        )
+
+    pub chain-turn : {c' : ℕ} → (tightAt rows v && not (eqb (f .start) to)) ≡ false → c' ≡ nextOf rows c → ChainInv src rows s₁ v t m e₁ s' (f .end) c'
+    chain-turn eb ec = record { at = λ good rdy i₁. let i = chain-over false eb good rdy i₁ in (i .0, ap (λ (n : ℕ). chainFrom (tightAt rows v) m (f .end) (left src rows v n)) ec ∙ i .1) }
+
+-- the ways out of the chain, from the state at entry
+module _ {src : Source} {rows s₀ s₁ : List ℕ} {v t : ℕ} {a : Front} (lv : v < 32) (some : v + 1 < stopOf rows v) (w₀ : Sought src rows s₀ (v + 1) t a s₁) (one₀ : a .start < 65536)
+    {s : List ℕ} {e c : ℕ} (inv : ChainInv src rows s₁ v t (a .start) (a .end) s e c) (k : Chains (kindAt rows v)) where
+  pub chain-end : {r : Look} → stopOf rows v ≤ c → r ≡ lookOf (a .start) e true → Looked src rows s₀ v t r s
+  unfolding chainFrom
+  chain-end le er = record {
+    seen = λ good rdy.
+        let i₀ = chain-some lv some w₀ one₀ k good rdy in
+        let i = inv .at good (i₀ .0) (i₀ .1) in
+        record { is = er ∙ (sym (ap (chainFrom (tightAt rows v) (a .start) e) (left-end src rows v c le)) ∙ i .1); ready = i .0 };
+  }
+
+  module _ {s' : List ℕ} {to : ℕ} {f : Front} (lt : c < stopOf rows v) (et : to ≡ pastOf e) (w : Sought src rows s c to f s') where
+    pub chain-stop : {r : Look} → 65536 ≤ f .start → r ≡ noLook → Looked src rows s₀ v t r s'
+    chain-stop n er = record {
+      seen = λ good rdy.
+          let i₀ = chain-some lv some w₀ one₀ k good rdy in
+          let i = chain-step lv inv lt et w good (i₀ .0) (i₀ .1) in
+          record {
+            is = er ∙ (sym (go-none f (λ x. cond (tightAt rows v && not (eqb (x .start) to)) (lookOf (a .start) e false) (chainFrom (tightAt rows v) (a .start) (x .end) (left src rows v (nextOf rows c)))) n) ∙ i .1);
+            ready = i .0;
+          };
+    }
+
+    pub chain-break : {r : Look} → f .start < 65536 → (tightAt rows v && not (eqb (f .start) to)) ≡ true → r ≡ lookOf (a .start) e false → Looked src rows s₀ v t r s'
+    chain-break one eb er = record {
+      seen = λ good rdy.
+          let i₀ = chain-some lv some w₀ one₀ k good rdy in
+          let i = chain-over lv inv lt et w one true eb good (i₀ .0) (i₀ .1) in
+          record { is = er ∙ i .1; ready = i .0 };
+    }
+
+-- ── The filters ──
+
+-- v's operands but the first
+rest-left : (src : Source) (rows : List ℕ) (v : ℕ) → v < 32 → v + 1 < stopOf rows v → others (operandsOf (given src rows) rows v) ≡ left src rows v (nextOf rows (v + 1))
+rest-left src rows v lv some = ap others (left-more src rows v (v + 1) lv some)
+
+module _ {src : Source} {rows : List ℕ} {v : ℕ} {a : Front} (lv : v < 32) (some : v + 1 < stopOf rows v) where
+  pub test-max : {s : List ℕ} {n : ℕ} {r : Bool} → kindAt rows v ≡ 6 → n ≡ measured src (st (a .start) (a .end)) → r ≡ leb n (firstAt rows v) → Tested src rows s v a r s
+  test-max k en er = record {
+    passed = λ good rdy. record {
+      is = er ∙ ap (λ (x : ℕ). leb x (firstAt rows v)) en
+          ∙ sym (ap (λ b. cond b (leb (measured src (st (a .start) (a .end))) (firstAt rows v)) (clears (others (operandsOf (given src rows) rows v)) a)) (eq-eqb (kindAt rows v) 6 k));
+      ready = rdy;
+    };
+  }
+
+  module _ {o : ℕ} (six : kindAt rows v ≡ 6 → ⊥) (eo : o ≡ nextOf rows (v + 1)) where
+    test-other : {r : Bool} {s' : List ℕ} → Ready src rows s' → r ≡ clears (left src rows v o) a → Passed src rows v a r s'
+    test-other rdy er = record {
+      is = er ∙ ap (λ (n : ℕ). clears (left src rows v n) a) eo ∙ ap (λ (ls : List (List Stretch)). clears ls a) (sym (rest-left src rows v lv some))
+          ∙ sym (ap (λ b. cond b (leb (measured src (st (a .start) (a .end))) (firstAt rows v)) (clears (others (operandsOf (given src rows) rows v)) a)) (ne-eqb (kindAt rows v) 6 six));
+      ready = rdy;
+    }
+
+    pub test-alone : {s : List ℕ} {r : Bool} → stopOf rows v ≤ o → r ≡ true → Tested src rows s v a r s
+    test-alone le er = record { passed = λ good rdy. test-other rdy (er ∙ sym (ap (λ (ls : List (List Stretch)). clears ls a) (left-end src rows v o le))) }
+
+    pub test-less : {s s' : List ℕ} {b : Front} {r : Bool} → o < stopOf rows v → Sought src rows s o (a .start) b s' → r ≡ ltb (a .end) (b .end) → Tested src rows s v a r s'
+    unfolding first
+    test-less lt w er = record {
+      passed = λ good rdy.
+          let g = w .found good rdy in
+          test-other (g .ready) (er ∙ ap (λ (x : Front). ltb (a .end) (x .end)) (g .is) ∙ sym (ap (λ (ls : List (List Stretch)). clears ls a) (left-more src rows v o lv lt)));
+    }
+
+module _ {src : Source} {rows s s₁ : List ℕ} {v t : ℕ} {a : Front} (lv : v < 32) (some : v + 1 < stopOf rows v) (w : Sought src rows s (v + 1) t a s₁) where
+  -- a look begins with the first operand's front
+  filter-first : Filters (kindAt rows v) → Good src rows → Ready src rows s
+      → Ready src rows s₁ × (goF a (λ f. lookOf (f .start) (f .end) (passes src (kindAt rows v) (firstAt rows v) (others (operandsOf (given src rows) rows v)) f)) ≡ look src rows v t)
+  unfolding first look
+  filter-first k good rdy =
+      let g = w .found good rdy in
+      let z = left-more src rows v (v + 1) lv some in (
+        g .ready,
+        ap (λ (x : Front). goF x (λ f. lookOf (f .start) (f .end) (passes src (kindAt rows v) (firstAt rows v) (others (operandsOf (given src rows) rows v)) f))) (g .is)
+            ∙ ap (λ (ls : List (List Stretch)). goF (front (firstFrom (listOf src rows (v + 1)) t)) (λ f. lookOf (f .start) (f .end) (passes src (kindAt rows v) (firstAt rows v) (others ls) f))) z
+            ∙ sym (ap (λ (ls : List (List Stretch)). lookBy src (kindAt rows v) (firstAt rows v) ls t) z ∙ simp (ne-eqb (kindAt rows v) 2 (k .0), ne-eqb (kindAt rows v) 3 (k .1), ne-eqb (kindAt rows v) 4 (k .2))),
+      )
+
+  pub filter-gone : {r : Look} → 65536 ≤ a .start → r ≡ noLook → Filters (kindAt rows v) → Looked src rows s v t r s₁
+  filter-gone n er k = record {
+    seen = λ good rdy.
+        let i = filter-first k good rdy in
+        record { is = er ∙ (sym (go-none a (λ f. lookOf (f .start) (f .end) (passes src (kindAt rows v) (firstAt rows v) (others (operandsOf (given src rows) rows v)) f)) n) ∙ i .1); ready = i .0 };
+  }
+
+  pub filter-done : {s' : List ℕ} {b : Bool} {r : Look} → a .start < 65536 → Tested src rows s₁ v a b s' → r ≡ lookOf (a .start) (a .end) b → Filters (kindAt rows v) → Looked src rows s v t r s'
+  filter-done one p er k = record {
+    seen = λ good rdy.
+        let i = filter-first k good rdy in
+        let g = p .passed good (i .0) in
         record {
-          ps = m .ps;
-          rest = subst (λ (n : ℕ). Rest rows v fuel n (m .ps)) (sym ec) (m .rest);
-          is = ap (λ (x : Look). pass (kindAt rows v) t x (evals (valuation src) (m .ps))) e'
-              ∙ (sym (go-some (first src (m .p) (toOf (kindAt rows v) t h)) (λ f. pass (kindAt rows v) t (stepOf (kindAt rows v) h f) (evals (valuation src) (m .ps))) one') ∙ m .is);
-        },
-      );
-}
-
--- the ways out of the pass, from the state at entry
-module _ {rows : List ℕ} {src : Source} {st st₀ : List ℕ} {v t fuel : ℕ} {a : Front} {h₀ : Look} (s₀ : Sought rows src st (v + 1) t fuel a st₀) (one : a .status ≡ 1) (e₀ : h₀ ≡ lookOf a 1)
-    {st₁ : List ℕ} {c : ℕ} {h : Look} (inv : PassInv rows src st₀ v t fuel h₀ st₁ c h) (hi : kindAt rows v ≤ 4) (lo : 2 ≤ kindAt rows v) where
-  pass-at : (q : Pattern) → Fits rows v q (fuel + 1) → Ready rows src st → Ready rows src st₁ × PassRest rows src v t fuel c h (look src q t)
-  pass-at q d rdy =
-      let w = passing rows src (rdy .good) v fuel q d (passes lo hi) in
-      let g = s₀ .found (w .p) (w .kid) rdy in
-      inv .at q w (g .ready) (ap statusF (sym (g .is)) ∙ one) (e₀ ∙ ap (λ (x : Front). lookOf x 1) (g .is))
-
-  pub pass-stop : {st' : List ℕ} {f : Front} {r : Look} {b : ℕ} → c < stopOf rows v → b ≡ toOf (kindAt rows v) t h → Sought rows src st₁ c b fuel f st' → (f .status ≡ 1 → ⊥) → r ≡ noLook
-      → Looked rows src st v t fuel r st'
-  pass-stop {st'} {f} lt eb s n e = record {
-    seen = λ q _ _ d rdy.
-        let i = pass-at q d rdy in
-        let m = pass-step rows src v t fuel c h (look src q t) (i .1 .ps) (i .1 .rest) (i .1 .is) lt in
-        let g = s .found (m .p) (m .kid) (i .0) in
-        let gi : f ≡ first src (m .p) (toOf (kindAt rows v) t h) = g .is ∙ ap (first src (m .p)) eb in
-        record { is = e ∙ (sym (go-none _ _ (λ z. n (ap statusF gi ∙ z))) ∙ m .is); ready = g .ready };
+          is = er ∙ ap (lookOf (a .start) (a .end)) (g .is)
+              ∙ (sym (go-some a (λ f. lookOf (f .start) (f .end) (passes src (kindAt rows v) (firstAt rows v) (others (operandsOf (given src rows) rows v)) f)) one) ∙ i .1);
+          ready = g .ready;
+        };
   }
-
-  pub pass-end : stopOf rows v ≤ c → Looked rows src st v t fuel h st₁
-  pass-end le = record {
-    seen = λ q _ _ d rdy.
-        let i = pass-at q d rdy in
-        record { is = pass-over rows src v t fuel c h (look src q t) (i .1 .ps) (i .1 .rest) (i .1 .is) le; ready = i .0 };
-  }
-
--- ── less and max: one look ──
-
-pub less-out : {rows : List ℕ} {src : Source} {st : List ℕ} {v t fuel : ℕ} {r : Look} {o : ℕ} → o ≡ nextOf rows (v + 1) → 32 ≤ o → kindAt rows v ≡ 5 → Looked rows src st v t fuel r st
-less-out {rows} {src} {st} {v} {t} {fuel} eo ge k =
-    record { seen = λ q _ _ d rdy. let w = lessing rows src (rdy .good) v fuel q d k in absurd (omega (arith, w .other .room, nodes-some (w .p'))) }
-
-pub less-gone : {rows : List ℕ} {src : Source} {st st' : List ℕ} {v t fuel : ℕ} {a : Front} {r : Look} → Sought rows src st (v + 1) t fuel a st' → (a .status ≡ 1 → ⊥) → r ≡ noLook → kindAt rows v ≡ 5
-    → Looked rows src st v t fuel r st'
-less-gone {rows} {src} {st} {st'} {v} {t} {fuel} s n e k = record { seen = λ q _ _ d rdy. let w = lessing rows src (rdy .good) v fuel q d k in first-gone s n e (w .kid) (λ z. w .is t ∙ go-none _ _ z) rdy }
-
-pub less-done : {rows : List ℕ} {src : Source} {st st₁ st' : List ℕ} {v t fuel : ℕ} {a b : Front} {r : Look} {o y : ℕ} → o ≡ nextOf rows (v + 1) → Sought rows src st (v + 1) t fuel a st₁ → a .status ≡ 1
-    → Sought rows src st₁ o (a .start) fuel b st' → y ≡ clearOf b a → r ≡ lookOf a y → kindAt rows v ≡ 5 → Looked rows src st v t fuel r st'
-less-done {rows} {src} {st} {st₁} {st'} {v} {t} {fuel} {a} {b} {r} {o} {y} eo s one s' ey er k = record {
-  seen = λ q _ _ d rdy.
-      let w = lessing rows src (rdy .good) v fuel q d k in
-      let g = s .found (w .p) (w .kid) rdy in
-      let g' = s' .found (w .p') (subst (λ (n : ℕ). Fits rows n (w .p') fuel) (sym eo) (w .other)) (g .ready) in
-      let z : look src q t ≡ goF a (λ f. lookOf f (clearOf (first src (w .p') (f .start)) f)) =
-      subst (λ (x : Front). look src q t ≡ goF x (λ f. lookOf f (clearOf (first src (w .p') (f .start)) f))) (sym (g .is)) (w .is t) in
-      let z' : look src q t ≡ lookOf a (clearOf (first src (w .p') (a .start)) a) = z ∙ go-some a (λ f. lookOf f (clearOf (first src (w .p') (f .start)) f)) one in
-      record { is = er ∙ (ap (lookOf a) (ey ∙ ap (λ (x : Front). clearOf x a) (g' .is)) ∙ sym z'); ready = g' .ready };
-}
-
-pub max-gone : {rows : List ℕ} {src : Source} {st st' : List ℕ} {v t fuel : ℕ} {a : Front} {r : Look} → Sought rows src st (v + 1) t fuel a st' → (a .status ≡ 1 → ⊥) → r ≡ noLook → kindAt rows v ≡ 6
-    → Looked rows src st v t fuel r st'
-max-gone {rows} {src} {st} {st'} {v} {t} {fuel} s n e k = record { seen = λ q _ _ d rdy. let w = maxing rows src (rdy .good) v fuel q d k in first-gone s n e (w .kid) (λ z. w .is t ∙ go-none _ _ z) rdy }
-
-pub max-done : {rows : List ℕ} {src : Source} {st st' : List ℕ} {v t fuel : ℕ} {a : Front} {r : Look} {y : ℕ} → Sought rows src st (v + 1) t fuel a st' → a .status ≡ 1
-    → y ≡ shortOf a (firstAt rows v) → r ≡ lookOf a y → kindAt rows v ≡ 6 → Looked rows src st v t fuel r st'
-max-done {rows} {src} {st} {st'} {v} {t} {fuel} {a} {r} {y} s one ey er k6 = record {
-  seen = λ q _ _ d rdy.
-      let w = maxing rows src (rdy .good) v fuel q d k6 in
-      let g = s .found (w .p) (w .kid) rdy in
-      let z : look src q t ≡ goF a (λ f. lookOf f (shortOf f (firstAt rows v))) = subst (λ (x : Front). look src q t ≡ goF x (λ f. lookOf f (shortOf f (firstAt rows v)))) (sym (g .is)) (w .is t) in
-      let z' : look src q t ≡ lookOf a (shortOf a (firstAt rows v)) = z ∙ go-some a (λ f. lookOf f (shortOf f (firstAt rows v))) one in
-      record { is = er ∙ (ap (lookOf a) ey ∙ sym z'); ready = g .ready };
-}
-
--- a pass serves the other kinds
-pub look-pass : {rows : List ℕ} {src : Source} {st st' : List ℕ} {v t fuel : ℕ} {r : Look} → (kindAt rows v ≡ 5 → ⊥) → (kindAt rows v ≡ 6 → ⊥)
-    → (kindAt rows v ≤ 4 → 2 ≤ kindAt rows v → Looked rows src st v t fuel r st') → Looked rows src st v t fuel r st'
-look-pass n5 n6 s = record { seen = λ q lo hi d rdy. s (omega (arith, n5, n6)) lo .seen q lo hi d rdy }

@@ -1,184 +1,201 @@
--- The walk over answers: one step, and the answers passed over. One law for each return and turn.
--- Assumes nothing.
-use mathlib.Core.Path.{_≡_, refl, sym, ap, ap₂, subst, subst₂, _∙_}
-use mathlib.Core.Logic.{_⊎_, ⊎-elim}
-use mathlib.Core.List.{List, [], _∷_, _++_}
-use Prim.Native.Nat.{ℕ, zero, suc, _+_, _*_, _≤_, _<_}
+-- The walk over answers: a front is the first of what is left from its line on. So steps pass over answers, and write them into cells. One law for each
+-- return and turn. Assumes nothing.
+use mathlib.Core.Path.{_≡_, refl, sym, ap, subst, _∙_}
+use mathlib.Core.Bool.{Bool, true, false}
+use mathlib.Core.List.{List, [], _∷_}
+use Prim.Native.Nat.{ℕ, suc, _+_, _*_, _/_, _≤_, _<_}
 use native.Mathlib.Omega.{arith}
-use lib.ListN.{length, take, drop, replicate, length-replicate, getD-replicate, length-drop, drop-of-length-le}
-use borrow.Author.Tests.{eq-eqb}
-use Rattle.stretches.specs.Stretch.{Stretch, st, Rising}
+use lib.ListN.{length, set, take, drop, replicate, length-take, length-drop, drop-of-length-le}
+use lib.Seq.{drop-drop, drop-set-lt}
+use lib.Dec.{ltb}
+use borrow.Author.Tests.{ltb-true, ltb-false, lt-ltb, le-ltb}
+use Rattle.basics.proofs.Basics.{cases}
+use Rattle.stretches.specs.Stretch.{Stretch, st, Fine}
 use Rattle.stretches.specs.Front as fronts
-use Rattle.stretches.specs.Front.{None, At, firstFrom, headOf, nth}
-use Rattle.stretches.proofs.Lists.{st-path}
+use Rattle.stretches.specs.Front.{None, At, firstFrom, onward}
+use Rattle.stretches.specs.Filling.{pairsIn, written, moreAfter}
+use Rattle.stretches.proofs.Filling.{drop-step, Partly, partly-more, partly-done, partly-all}
 use Rattle.stretches.proofs.Fronts.{front-good}
-use Rattle.stretches.proofs.Steps.{onward, onward-all, onward-none, onward-at}
-use Rattle.event_log.proofs.LinesLaws.{cursor-start}
-use Rattle.event_log.specs.Lines.{Cursor}
-use Rattle.pattern.specs.Pattern.{Pattern}
-use Rattle.meaning.specs.Meaning.{eval}
+use Rattle.stretches.proofs.Steps.{onward-none, onward-at}
 use Rattle.seek.specs.declared.Front.{Front}
-use Rattle.seek.specs.Moves.{pickN, atF, noneF}
-use Rattle.seek.specs.Source.{Source, valuation, Good}
-use Rattle.seek.specs.Seek.{Fits, front, first, Ready, Sought}
-use Rattle.seek.specs.Steps.{Led, onFrom, Stepped, NextOf, Ahead, Passed}
+use Rattle.seek.specs.declared.Walked.{Walked}
+use Rattle.seek.specs.Source.{Source, listOf, Good}
+use Rattle.seek.specs.Fronts.{atF, noneF, front}
+use Rattle.seek.specs.Seek.{first, Ready, Sought}
+use Rattle.seek.specs.Steps.{FirstOf, Ahead, Filling, FillAll, PassedOver, Put}
 use Rattle.seek.proofs.Nodes.{fine}
-use Rattle.seek.proofs.Shape.{tree-one}
+use Rattle.seek.proofs.State.{ready-none}
 
--- ── Lists ──
+-- ── A front and what is left ──
 
-module _ {A : Type 0} where
-  pub drop-step : (n : ℕ) (l : List A) (x : A) (m : List A) → drop n l ≡ x ∷ m → (drop (suc n) l ≡ m) × (take (suc n) l ≡ take n l ++ (x ∷ []))
-  drop-step zero [] x m e = let z : _≡_ {A = ℕ} 0 1 = cc in absurd (omega arith)
-  drop-step zero (y ∷ l) x m e = (cc, cc)
-  drop-step (suc n) [] x m e = let z : _≡_ {A = ℕ} 0 1 = cc in absurd (omega arith)
-  drop-step (suc n) (y ∷ l) x m e = let k = drop-step n l x m e in (k .0, ap (λ (s : List A). y ∷ s) (k .1))
+module _ (l : List Stretch) (f : Fine 65536 l) (t : ℕ) (r : Front) (e : r ≡ front (firstFrom l t)) where
+  -- none is handed out as it is, and nothing is left
+  front-none : 65536 ≤ r .start → (noneF ≡ r) × (onward l t ≡ [])
+  front-none ge = go (firstFrom l t) refl
+    where
+      go : (g : fronts.Front) → firstFrom l t ≡ g → (noneF ≡ r) × (onward l t ≡ [])
+      go None k = (sym (e ∙ ap front k), onward-none l (f .rising) t k)
+      go (At x) k =
+          let w : r .start ≡ x .start = ap (λ (y : Front). y .start) (e ∙ ap front k) in
+          let m = front-good l (f .rising) t x k .0 in
+          absurd (omega (arith, f .sound (x .start) (x .end) m, f .below (x .start) (x .end) m))
 
-  none-left : (n : ℕ) (l : List A) → drop n l ≡ [] → length l ≤ n
-  none-left n l e = omega (arith, length-drop n l, ap length e)
+  -- any other starts at t or later, and is the first of what is left
+  front-some : r .start < 65536 → (t ≤ r .start) × (onward l t ≡ st (r .start) (r .end) ∷ onward l (r .start + 1))
+  front-some lt = go (firstFrom l t) refl
+    where
+      go : (g : fronts.Front) → firstFrom l t ≡ g → (t ≤ r .start) × (onward l t ≡ st (r .start) (r .end) ∷ onward l (r .start + 1))
+      go None k = let z : r .start ≡ 65536 = ap (λ (y : Front). y .start) (e ∙ ap front k) in absurd (omega arith)
+      go (At x) k =
+          let w : r ≡ atF (x .start) (x .end) = e ∙ ap front k in
+          let y : suc (x .start) ≡ x .start + 1 = omega arith in (
+            subst (λ (y : Front). t ≤ y .start) (sym w) (front-good l (f .rising) t x k .1),
+            onward-at l (f .rising) t x k ∙ ap (λ (n : ℕ). x ∷ onward l n) y ∙ ap (λ (y : Front). st (y .start) (y .end) ∷ onward l (y .start + 1)) (sym w),
+          )
 
--- ── One step ──
-
--- nothing is read yet
-pub ready-none : (rows : List ℕ) (src : Source) → Good src → Ready rows src (replicate 192 0)
-ready-none rows src good = record {
-  good = good;
-  wide = length-replicate {A = ℕ} 192 0;
-  holds = λ v q lt tree live. absurd (live (getD-replicate {A = ℕ} 192 (4 * v) 0 0 (omega arith)));
-  cursors = λ none v lt.
-      subst₂ (Cursor (src .log)) (sym (getD-replicate {A = ℕ} 192 (128 + v) 0 0 (omega arith))) (sym (getD-replicate {A = ℕ} 192 (160 + v) 0 0 (omega arith))) (cursor-start (src .log));
-}
-
--- the opening
-pub led-start : (rows : List ℕ) (src : Source) (q : Pattern) → Good src → Fits rows 0 q 8 → Led rows src q 0 (replicate 192 0) 0
-led-start rows src q good fits = record { fits = fits; ready = ready-none rows src good; rest = onward-all (eval (valuation src) q) (fine src good q .rising) }
-
--- the front from t on is answer number n
-pub front-nth : (l : List Stretch) → Rising l → (t n : ℕ) → onward l t ≡ drop n l → firstFrom l t ≡ nth l n
-front-nth l r t n rest = go (firstFrom l t) refl
-  where
-    go : (g : fronts.Front) → firstFrom l t ≡ g → g ≡ nth l n
-    go None e = ap headOf (sym (onward-none l r t e) ∙ rest)
-    go (At x) e = ap headOf (sym (onward-at l r t x e) ∙ rest)
-
--- from the front on
-pub on-rest : (l : List Stretch) → Rising l → (t n : ℕ) → onward l t ≡ drop n l → (r : Front) → r ≡ front (firstFrom l t) → onward l (onFrom t r) ≡ drop (n + 1) l
-on-rest l u t n rest r e = go (firstFrom l t) refl
-  where
-    z : suc n ≡ n + 1
-    z = omega arith
-
-    go : (g : fronts.Front) → firstFrom l t ≡ g → onward l (onFrom t r) ≡ drop (n + 1) l
-    go None k =
-        let w : r ≡ noneF = e ∙ ap front k in
-        ap (λ (f : Front). onward l (onFrom t f)) w ∙ (onward-none l u t k ∙ sym (drop-of-length-le l {i = n + 1} (omega (arith, none-left n l (sym rest ∙ onward-none l u t k)))))
-    go (At x) k =
-        let w : r ≡ atF (x .start) (x .end) = e ∙ ap front k in
-        let y : x .start + 1 ≡ suc (x .start) = omega arith in
-        ap (λ (f : Front). onward l (onFrom t f)) w
-        ∙ (ap (onward l) y ∙ (sym (drop-step n l x (onward l (suc (x .start))) (sym rest ∙ onward-at l u t x k) .0) ∙ ap (λ (m : ℕ). drop m l) z))
-
--- a front sought from t, where n steps led to, is answer number n, and leads on
-step-on : {rows : List ℕ} {src : Source} {s s' : List ℕ} {t : ℕ} {r : Front} (q : Pattern) (n : ℕ) → Led rows src q n s t → r ≡ first src q t → Ready rows src s' → Stepped rows src q n t r s'
-unfolding first
-step-on {src = src} {t = t} {r = r} q n led e ready =
-    let up = fine src (ready .good) q .rising in
-    record {
-      is = e ∙ ap front (front-nth (eval (valuation src) q) up t n (led .rest));
-      on = record { fits = led .fits; ready = ready; rest = on-rest (eval (valuation src) q) up t n (led .rest) r e };
-    }
-
--- a step that the table's tree allows: its front, and a state in which nothing is read
-pub next-there : {rows : List ℕ} {src : Source} (q : Pattern) {s : List ℕ} {t : ℕ} → Good src → Fits rows 0 q 8 → NextOf rows src s t (first src q t) (replicate 192 0)
-next-there {rows} {src} q {s} {t} good fits = record {
-  steps = λ q' n led. step-on q' n led (ap (λ (p : Pattern). first src p t) (tree-one rows 0 q q' (fits .tree) (led .fits .tree))) (ready-none rows src good);
-}
-
--- a front that starts before t or at 65,536 or later is none that was sought from t
-within : (src : Source) (good : Good src) (q : Pattern) (t : ℕ) (f : Front) → f ≡ first src q t → f .status ≡ 1 → (t ≤ f .start) × (f .start < 65536)
-unfolding first
-within src good q t f e one = go (firstFrom (eval (valuation src) q) t) refl
-  where
-    go : (g : fronts.Front) → firstFrom (eval (valuation src) q) t ≡ g → (t ≤ f .start) × (f .start < 65536)
-    go None k = let z : f .status ≡ 2 = ap (λ (f : Front). f .status) (e ∙ ap front k) in absurd (omega arith)
-    go (At x) k =
-        let w : f .start ≡ x .start = ap (λ (f : Front). f .start) (e ∙ ap front k) in
-        let l = fine src good q in
-        let z = front-good (eval (valuation src) q) (l .rising) t x k in
-        (omega (arith, z .1), omega (arith, l .sound (x .start) (x .end) (z .0), l .below (x .start) (x .end) (z .0)))
-
-none-is : (src : Source) (q : Pattern) (t : ℕ) (f : Front) → f ≡ first src q t → (f .status ≡ 1 → ⊥) → noneF ≡ f
-unfolding first
-none-is src q t f e n = go (firstFrom (eval (valuation src) q) t) refl
-  where
-    go : (g : fronts.Front) → firstFrom (eval (valuation src) q) t ≡ g → noneF ≡ f
-    go None k = sym (e ∙ ap front k)
-    go (At x) k = absurd (n (ap (λ (f : Front). f .status) (e ∙ ap front k)))
+-- ── first ──
 
 ahead-none : (t : ℕ) (r : Front) → r ≡ noneF → Ahead t r
-ahead-none t r e = record {
-  from = λ one. let z : r .status ≡ 2 = ap (λ (f : Front). f .status) e in absurd (omega arith);
-  small = let z : r .start ≡ 0 = ap (λ (f : Front). f .start) e in omega arith;
-  none = λ n. e;
-}
+ahead-none t r e = let z : r .start ≡ 65536 = ap (λ (f : Front). f .start) e in record { from = λ lt. absurd (omega arith); small = omega arith; none = λ n. e }
 
-module _ {rows : List ℕ} {src : Source} {s : List ℕ} {t : ℕ} {f : Front} {s' : List ℕ} (g : Sought rows src s 0 t 8 f s') where
+pub first-out : {src : Source} {rows s : List ℕ} {v t : ℕ} {r : Front} → 32 ≤ v → r ≡ noneF → FirstOf src rows s v t r s × Ahead t r
+first-out {t = t} {r = r} ge e = (record { finds = λ lv good rdy. absurd (omega arith); outside = λ h. (e, refl) }, ahead-none t r e)
+
+module _ {src : Source} {rows s : List ℕ} {v t : ℕ} {f : Front} {s' : List ℕ} (lv : v < 32) (g : Sought src rows s v t f s') where
   -- what is handed out is what was sought
-  stepped : {r : Front} → ((q : Pattern) → Good src → f ≡ first src q t → r ≡ f) → NextOf rows src s t r s'
-  stepped same = record { steps = λ q n led. let k = g .found q (led .fits) (led .ready) in step-on q n led (same q (led .ready .good) (k .is) ∙ k .is) (k .ready) }
+  handed : {r : Front} → (Good src rows → f ≡ first src rows v t → r ≡ f) → FirstOf src rows s v t r s'
+  handed same = record { finds = λ h good rdy. let k = g .found good rdy in record { is = same good (k .is) ∙ k .is; ready = k .ready }; outside = λ h. absurd (omega arith) }
 
-  pub next-none : {r : Front} → (f .status ≡ 1 → ⊥) → r ≡ noneF → NextOf rows src s t r s' × Ahead t r
-  next-none {r} n e = (stepped (λ q good is. e ∙ none-is src q t f is n), ahead-none t r e)
+  pub first-none : {r : Front} → 65536 ≤ f .start → r ≡ noneF → FirstOf src rows s v t r s' × Ahead t r
+  unfolding first
+  first-none {r} n e = (handed (λ good is. e ∙ front-none (listOf src rows v) (fine src rows good v lv) t f is n .0), ahead-none t r e)
 
-  pub next-bad : {r : Front} → f .status ≡ 1 → (f .start < t) ⊎ (65535 < f .start) → r ≡ noneF → NextOf rows src s t r s' × Ahead t r
-  next-bad {r} one bad e = (stepped (λ q good is. let w = within src good q t f is one in absurd (⊎-elim (λ (h : f .start < t). omega (arith, w .0)) (λ (h : 65535 < f .start). omega (arith, w .1)) bad)), ahead-none t r e)
+  pub first-bad : {r : Front} → f .start < 65536 → f .start < t → r ≡ noneF → FirstOf src rows s v t r s' × Ahead t r
+  unfolding first
+  first-bad {r} one bad e = (handed (λ good is. absurd (omega (arith, front-some (listOf src rows v) (fine src rows good v lv) t f is one .0))), ahead-none t r e)
 
-  pub next-at : f .status ≡ 1 → t ≤ f .start → f .start ≤ 65535 → NextOf rows src s t f s' × Ahead t f
-  next-at one lo hi = (stepped (λ q good is. refl), record { from = λ z. lo; small = omega arith; none = λ n. absurd (n one) })
+  pub first-at : f .start < 65536 → t ≤ f .start → FirstOf src rows s v t f s' × Ahead t f
+  first-at one lo = (handed (λ good is. refl), record { from = λ z. lo; small = omega arith; none = λ n. absurd (omega arith) })
 
--- what a step says of the answers
-pub nth-none : (l : List Stretch) (n : ℕ) (r : Front) → r ≡ front (nth l n) → (r .status ≡ 1 → ⊥) → length l ≤ n
-nth-none l n r e no-more = none-left n l (empty (drop n l) e)
-  where
-    empty : (m : List Stretch) → r ≡ front (headOf m) → m ≡ []
-    empty [] e = refl
-    empty (x ∷ m) e = absurd (no-more (ap (λ (f : Front). f .status) e))
+-- ── A step of the walk ──
 
-pub nth-some : (l : List Stretch) (n : ℕ) (r : Front) → r ≡ front (nth l n) → r .status ≡ 1 → drop n l ≡ st (r .start) (r .end) ∷ drop (suc n) l
-nth-some l n r e one = head (drop n l) refl
-  where
-    head : (m : List Stretch) → drop n l ≡ m → drop n l ≡ st (r .start) (r .end) ∷ drop (suc n) l
-    head [] k = let z : r .status ≡ 2 = ap (λ (f : Front). f .status) (e ∙ ap (λ (m : List Stretch). front (headOf m)) k) in absurd (omega arith)
-    head (x ∷ m) k =
-        let z : r ≡ atF (x .start) (x .end) = e ∙ ap (λ (m : List Stretch). front (headOf m)) k in
-        let y : x ≡ st (r .start) (r .end) = st-path x (st (r .start) (r .end)) (ap (λ (f : Front). f .start) (sym z)) (ap (λ (f : Front). f .end) (sym z)) in
-        k ∙ ap₂ (λ (a : Stretch) (b : List Stretch). a ∷ b) y (sym (drop-step n l x m k .0))
+-- the answers from a line on
+abbrev pub rest : Source → List ℕ → ℕ → List Stretch
+rest src rows t = onward (listOf src rows 0) t
+
+module _ {src : Source} {rows s : List ℕ} {t : ℕ} {f : Front} {s' : List ℕ} (g : FirstOf src rows s 0 t f s') (good : Good src rows) (rdy : Ready src rows s) where
+  step-ready : Ready src rows s'
+  step-ready = g .finds (omega arith) good rdy .ready
+
+  step-none : 65536 ≤ f .start → rest src rows t ≡ []
+  unfolding first
+  step-none n = front-none (listOf src rows 0) (fine src rows good 0 (omega arith)) t f (g .finds (omega arith) good rdy .is) n .1
+
+  step-some : f .start < 65536 → rest src rows t ≡ st (f .start) (f .end) ∷ rest src rows (f .start + 1)
+  unfolding first
+  step-some lt = front-some (listOf src rows 0) (fine src rows good 0 (omega arith)) t f (g .finds (omega arith) good rdy .is) lt .1
 
 -- ── Answers passed over ──
 
-pub on-some : (t : ℕ) (r : Front) → r .status ≡ 1 → onFrom t r ≡ r .start + 1
-on-some t r e = ap (λ b. pickN b (r .start + 1) t) (eq-eqb (r .status) 1 e)
+pub over-start : {src : Source} {rows s : List ℕ} {t : ℕ} → PassedOver src rows s t 0 t s
+over-start = record { ready = λ good rdy. rdy; rest = λ good rdy. refl }
 
-pub over-start : {rows : List ℕ} {src : Source} {s : List ℕ} → Passed rows src s 0 0 s
-over-start = record { leads = λ q led. led }
-
-module _ {rows : List ℕ} {src : Source} {s₀ s : List ℕ} {t n : ℕ} (inv : Passed rows src s₀ n t s) {f : Front} {s' : List ℕ} (g : NextOf rows src s t f s') where
-  pub over-turn : f .status ≡ 1 → Passed rows src s₀ (n + 1) (f .start + 1) s'
-  over-turn one = record { leads = λ q led. subst (λ (k : ℕ). Led rows src q (n + 1) s' k) (on-some t f one) (g .steps q n (inv .leads q led) .on) }
-
-  -- past the last answer it is the same for every number
-  pub over-end : {m : ℕ} → (f .status ≡ 1 → ⊥) → n ≤ m → Passed rows src s₀ m t s'
-  over-end {m} no-more le = record {
-    leads = λ q led.
-        let now = inv .leads q led in
-        let k = g .steps q n now in
-        let few = nth-none (eval (valuation src) q) n f (k .is) no-more in
-        record {
-          fits = now .fits;
-          ready = k .on .ready;
-          rest = now .rest ∙ (drop-of-length-le (eval (valuation src) q) few ∙ sym (drop-of-length-le (eval (valuation src) q) {i = m} (omega arith)));
-        };
+module _ {src : Source} {rows s₀ s : List ℕ} {t₀ t n : ℕ} (inv : PassedOver src rows s₀ t₀ n t s) {f : Front} {s' : List ℕ} (g : FirstOf src rows s 0 t f s') where
+  pub over-turn : f .start < 65536 → PassedOver src rows s₀ t₀ (n + 1) (f .start + 1) s'
+  over-turn one = record {
+    ready = λ good rdy. step-ready g good (inv .ready good rdy);
+    rest = λ good rdy.
+        let z : suc n ≡ n + 1 = omega arith in
+        sym (drop-step n (rest src rows t₀) (st (f .start) (f .end)) (rest src rows (f .start + 1)) (sym (inv .rest good rdy) ∙ step-some g good (inv .ready good rdy) one) .0)
+        ∙ ap (λ (k : ℕ). drop k (rest src rows t₀)) z;
   }
 
-pub over-done : {rows : List ℕ} {src : Source} {s₀ s : List ℕ} {t n m : ℕ} → Passed rows src s₀ n t s → n ≡ m → Passed rows src s₀ m t s
-over-done {rows} {src} {s₀} {s} {t} inv e = subst (λ (k : ℕ). Passed rows src s₀ k t s) e inv
+  -- past the last answer it is the same for every number
+  pub over-end : {m : ℕ} → 65536 ≤ f .start → n ≤ m → PassedOver src rows s₀ t₀ m t s'
+  over-end {m} no-more le = record {
+    ready = λ good rdy. step-ready g good (inv .ready good rdy);
+    rest = λ good rdy.
+        let e = step-none g good (inv .ready good rdy) no-more in
+        let few : length (rest src rows t₀) ≤ n = omega (arith, length-drop n (rest src rows t₀), ap length (sym (inv .rest good rdy) ∙ e)) in
+        e ∙ sym (drop-of-length-le (rest src rows t₀) {i = m} (omega arith));
+  }
+
+pub over-done : {src : Source} {rows s₀ s : List ℕ} {t₀ t n m : ℕ} → PassedOver src rows s₀ t₀ n t s → n ≡ m → PassedOver src rows s₀ t₀ m t s
+over-done {src} {rows} {s₀} {s} {t₀} {t} inv e = subst (λ (k : ℕ). PassedOver src rows s₀ t₀ k t s) e inv
+
+-- ── Answers written into cells ──
+
+-- n of the answers from line t₀ on are written, and the next is sought from line t
+pub record PutInv (src : Source) (rows s₀ : List ℕ) (t₀ : ℕ) (cells₀ s : List ℕ) (t n : ℕ) (cells : List ℕ) : Type 0 where
+  pub over : PassedOver src rows s₀ t₀ n t s
+  pub partly : Good src rows → Ready src rows s₀ → Partly (rest src rows t₀) n cells₀ cells
+
+pub put-start : {src : Source} {rows s : List ℕ} {t : ℕ} {cells : List ℕ} → PutInv src rows s t cells s t 0 cells
+put-start = record { over = over-start; partly = λ good rdy. record { some = omega arith; wrote = refl } }
+
+-- whatever is written lies before 2 n
+pub kept-turn : (cells₀ cells : List ℕ) (n x y : ℕ) → drop (2 * n) cells ≡ drop (2 * n) cells₀ → drop (2 * (n + 1)) (set (set cells (2 * n) x) (2 * n + 1) y) ≡ drop (2 * (n + 1)) cells₀
+kept-turn cells₀ cells n x y e =
+    let z : 2 * n + 2 ≡ 2 * (n + 1) = omega arith in
+    drop-set-lt (2 * (n + 1)) (set cells (2 * n) x) (2 * n + 1) y (omega arith)
+    ∙ (drop-set-lt (2 * (n + 1)) cells (2 * n) x (omega arith)
+    ∙ subst (λ (k : ℕ). drop k cells ≡ drop k cells₀) z (sym (drop-drop 2 (2 * n) cells) ∙ (ap (drop 2) e ∙ drop-drop 2 (2 * n) cells₀)))
+
+module _ (l : List Stretch) (n : ℕ) (cells₀ cells : List ℕ) (p : Partly l n cells₀ cells) where
+  filling-is : (more : Bool) → written l 0 cells₀ ≡ take n l → more ≡ ltb (0 + n) (length l) → Filling l 0 cells₀ (record { count = n; more = more }) cells
+  filling-is more w e =
+      let d = partly-done l n cells₀ cells p w in
+      record { count = d .0; more = e ∙ ap (λ (k : ℕ). ltb (0 + k) (length l)) (d .0); wrote = d .1 }
+
+  filling-done : length l ≤ n → 2 * n ≤ length cells₀ → Filling l 0 cells₀ (record { count = n; more = false }) cells
+  filling-done few room = filling-is false (partly-all l n cells₀ few room) (sym (le-ltb (0 + n) (length l) (omega arith)))
+
+  filling-full : n < length l → n ≡ pairsIn cells₀ → Filling l 0 cells₀ (record { count = n; more = true }) cells
+  filling-full more full = filling-is true (ap (λ (k : ℕ). take k l) (sym full)) (sym (lt-ltb (0 + n) (length l) (omega arith)))
+
+module _ {src : Source} {rows s₀ : List ℕ} {t₀ : ℕ} {cells₀ s : List ℕ} {t n : ℕ} {cells : List ℕ} (inv : PutInv src rows s₀ t₀ cells₀ s t n cells)
+    {f : Front} {s' : List ℕ} (g : FirstOf src rows s 0 t f s') where
+  pub put-turn : f .start < 65536 → 2 * n + 2 ≤ length cells₀ → PutInv src rows s₀ t₀ cells₀ s' (f .start + 1) (n + 1) (set (set cells (2 * n) (f .start)) (2 * n + 1) (f .end))
+  put-turn one room = record {
+    over = over-turn (inv .over) g one;
+    partly = λ good rdy. partly-more (rest src rows t₀) n cells₀ cells (inv .partly good rdy) (st (f .start) (f .end)) (rest src rows (f .start + 1))
+        (sym (inv .over .rest good rdy) ∙ step-some g good (inv .over .ready good rdy) one) room;
+  }
+
+  -- nothing is left
+  pub put-done : {w : Walked} → w ≡ record { count = n; more = false } → 65536 ≤ f .start → 2 * n ≤ length cells₀ → Put src rows s₀ t₀ cells₀ w cells
+  put-done {w} e no-more room = record {
+    puts = λ good rdy.
+        let k = sym (inv .over .rest good rdy) ∙ step-none g good (inv .over .ready good rdy) no-more in
+        let few : length (rest src rows t₀) ≤ n = omega (arith, length-drop n (rest src rows t₀), ap length k) in
+        subst (λ (w : Walked). Filling (rest src rows t₀) 0 cells₀ w cells) (sym e) (filling-done (rest src rows t₀) n cells₀ cells (inv .partly good rdy) few room);
+  }
+
+  -- a further answer has no room
+  pub put-full : {w : Walked} → w ≡ record { count = n; more = true } → f .start < 65536 → n ≡ length cells₀ / 2 → Put src rows s₀ t₀ cells₀ w cells
+  put-full {w} e one full = record {
+    puts = λ good rdy.
+        let k = sym (inv .over .rest good rdy) ∙ step-some g good (inv .over .ready good rdy) one in
+        let more : n < length (rest src rows t₀) = omega (arith, length-drop n (rest src rows t₀), ap length k) in
+        subst (λ (w : Walked). Filling (rest src rows t₀) 0 cells₀ w cells) (sym e) (filling-full (rest src rows t₀) n cells₀ cells (inv .partly good rdy) more full);
+  }
+
+-- ── Both ──
+
+more-after : (l : List Stretch) (f : ℕ) (cells : List ℕ) → moreAfter (drop f l) 0 cells ≡ moreAfter l f cells
+more-after l f cells =
+    let n : ℕ = length (written l f cells) in
+    let d = length-drop f l in
+    let t = length-take (pairsIn cells) (drop f l) in
+    cases (ltb (f + length (written l f cells)) (length l)) (λ b. ltb (0 + length (written l f cells)) (length (drop f l)) ≡ b)
+    (λ k. lt-ltb (0 + length (written l f cells)) (length (drop f l)) (omega (arith, ltb-true (f + length (written l f cells)) (length l) k)))
+    (λ k. le-ltb (0 + length (written l f cells)) (length (drop f l)) (omega (arith, ltb-false (f + length (written l f cells)) (length l) k)))
+
+pub filled-all : {src : Source} {rows : List ℕ} {line f t : ℕ} {s : List ℕ} {cells : List ℕ} {w : Walked} {cells' : List ℕ}
+    → PassedOver src rows (replicate 128 0) line f t s → Put src rows s t cells w cells' → FillAll src rows line f cells w cells'
+filled-all {src} {rows} {line} {f} {t} {s} {cells} {w} {cells'} a b = record {
+  fills = λ good.
+      let rdy = ready-none src rows in
+      let h = subst (λ (l : List Stretch). Filling l 0 cells w cells') (a .rest good rdy) (b .puts good (a .ready good rdy)) in
+      record { count = h .count; more = h .more ∙ more-after (rest src rows line) f cells; wrote = h .wrote };
+}

@@ -1,7 +1,6 @@
 pub mod Source
+pub mod Fronts
 pub mod Seek
-pub mod Steps
-pub mod Lines
-pub mod LineSteps
 pub mod Leaves
-pub mod Moves
+pub mod Steps
+pub mod Fold

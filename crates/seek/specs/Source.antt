@@ -1,47 +1,51 @@
--- What leaves read, the lists that they stand for, and the sources over which the machine's promises hold.
--- Assumes nothing.
-use Prim.Native.Nat.{ℕ, zero, suc, _≤_, _<_}
-use mathlib.Core.Path.{_≡_}
+-- What the leaves of a table read, and the list that each node stands for. Assumes nothing.
+use Prim.Native.Nat.{ℕ, _<_}
+use mathlib.Core.Path.{_≡_, refl}
 use mathlib.Core.Bool.{cond}
-use mathlib.Core.List.{List, [], map}
-use lib.ListN.{length, getD}
-use lib.Dec.{eqb}
-use Rattle.stretches.specs.Stretch.{Stretch, In, Rising, marks, lengthOf}
-use Rattle.event_log.specs.Reading.{says}
-use Rattle.pattern.specs.Pattern.{Symbol, Ev, Pattern, Patterns, Node, Nil, Cons}
-use Rattle.pattern.specs.Rows.{firstOf}
-use Rattle.meaning.specs.Meaning.{Valuation, matches}
-use Rattle.meaning.specs.Lent.{listsOf}
+use mathlib.Core.List.{List, [], _∷_, _++_}
+use lib.ListN.{length, replicate}
+use lib.Dec.{leb, eqb}
+use Rattle.stretches.specs.Stretch.{Stretch, st, Fine, marks, lengthOf}
+use Rattle.stretches.specs.Lent.{part}
+use Rattle.stretches.specs.Table.{kindAt, firstAt, secondAt, Given, listAt}
+use Rattle.marks.specs.Row.{row}
 
--- a log, or lent lists where there are any
+-- rows of marks in words, and lent lists in items
 pub record Source : Type 0 where
-  pub log : List ℕ
+  pub words : List ℕ
   pub items : List ℕ
-  pub ends : List ℕ
 
-abbrev pub source : List ℕ → List ℕ → List ℕ → Source
-source l i e = record { log = l; items = i; ends = e }
+abbrev pub source : List ℕ → List ℕ → Source
+source w i = record { words = w; items = i }
 
--- a leaf's list: over a log [p..p] for each matching line p; over lent lists the one that its first number names
-unfoldable pub leafOf : Source → Symbol → List Stretch
-leafOf src h = cond (eqb (length (src .ends)) 0) (marks 0 (map (matches h) (says (src .log)))) (getD (listsOf (src .items) (src .ends)) (firstOf h) [])
+-- the stretches from place i of the items up to place h; a list that does not lie inside the items has none
+abbrev pub lent : List ℕ → ℕ → ℕ → List Stretch
+lent items i h = cond (leb h (length items)) (part items i h) []
 
--- over either source `max` measures end − start + 1
-abbrev pub valuation : Source → Valuation
-valuation src = record { leaf = leafOf src; measure = lengthOf }
+-- a node's own list by its kind and numbers: 16 a row of marks by its first word and its width, 17 a lent list by its places from and to
+abbrev pub ownList : Source → ℕ → ℕ → ℕ → List Stretch
+ownList src k a b = cond (eqb k 16) (marks 0 (row (src .words) a b)) (cond (eqb k 17) (lent (src .items) a b) [])
 
--- each leaf's list rises, has no start above its end, and ends below 65,536; the lent lists lie inside the items; the log is not too long
-pub record Good (src : Source) : Type 0 where
-  pub up : (h : Symbol) → Rising (leafOf src h)
-  pub ok : (h : Symbol) (s e : ℕ) → In s e (leafOf src h) → s ≤ e
-  pub small : (h : Symbol) (s e : ℕ) → In s e (leafOf src h) → e < 65536
-  pub inside : (k : ℕ) → getD (src .ends) k 0 ≤ length (src .items)
-  pub brief : length (src .ends) ≡ 0 → length (src .log) ≤ 61440
+-- what `max` measures: the length in lines
+abbrev pub measured : Source → Stretch → ℕ
+measured src x = lengthOf x
 
--- the leaves of n lent lists from number k on, and the tree of an operator over them
-abbrev pub listLeaves : ℕ → ℕ → Patterns
-listLeaves k zero = Nil
-listLeaves k (suc n) = Cons (Node (Ev k 0) Nil) (listLeaves (suc k) n)
+abbrev pub given : Source → List ℕ → Given
+given src rows = record { own = λ v. ownList src (kindAt rows v) (firstAt rows v) (secondAt rows v); measure = measured src }
 
-abbrev pub listTree : Symbol → ℕ → Pattern
-listTree h n = Node h (listLeaves 0 n)
+-- the list that node v stands for
+abbrev pub listOf : Source → List ℕ → ℕ → List Stretch
+listOf src rows v = listAt (given src rows) rows v
+
+-- each node's own list is fine and ends below line 65,536
+abbrev pub Good : Source → List ℕ → Type 0
+Good src rows = (v : ℕ) → v < 32 → Fine 65536 (given src rows .own v)
+
+-- ── An example: less of lines 0, 2 and 64 by a lent list ──
+
+abbrev column : List ℕ → List ℕ
+column l = l ++ replicate 29 0
+
+ex-list : listOf (source (9 ∷ 5 ∷ 1 ∷ []) (0 ∷ 0 ∷ 2 ∷ 2 ∷ [])) (column (5 ∷ 16 ∷ 17 ∷ []) ++ column (3 ∷ 1 ∷ 1 ∷ []) ++ column (0 ∷ 1 ∷ 2 ∷ []) ++ column (0 ∷ 2 ∷ 4 ∷ [])) 0 ≡ st 0 0 ∷ st 64 64 ∷ []
+unfolding listAt Rattle.stretches.specs.Table.lastLists Rattle.stretches.specs.Table.operands Rattle.stretches.specs.Table.nextOf Rattle.stretches.specs.Table.stopOf row Rattle.marks.specs.Row.flags Rattle.marks.specs.Row.bits
+ex-list = refl

@@ -1,45 +1,29 @@
--- What a step and a filling call over a table promise: for the tree that the table holds, over a good source, the answers in their order.
--- Assumes nothing.
-use Prim.Native.Nat.{ℕ, _+_, _*_, _≤_, _<_}
+-- What a seek with a kept state and a filling call over a table promise. Assumes nothing.
+use Prim.Native.Nat.{ℕ, _*_, _≤_, _<_}
 use mathlib.Core.Path.{_≡_}
 use mathlib.Core.List.{List}
 use lib.ListN.{length, drop}
-use lib.Dec.{eqb}
 use Rattle.stretches.specs.Stretch.{Stretch}
-use Rattle.stretches.specs.Front.{nth}
-use Rattle.stretches.proofs.Steps.{onward}
-use Rattle.pattern.specs.Pattern.{Pattern}
-use Rattle.meaning.specs.Meaning.{eval}
-use Rattle.meaning.specs.Filling.{written, filled, moreAfter}
+use Rattle.stretches.specs.Front.{onward}
+use Rattle.stretches.specs.Filling.{written, filled, moreAfter}
 use Rattle.seek.specs.declared.Front.{Front}
 use Rattle.seek.specs.declared.Walked.{Walked}
-use Rattle.seek.specs.Source.{Source, valuation, Good}
-use Rattle.seek.specs.Moves.{pickN, noneF}
-use Rattle.seek.specs.Seek.{Fits, Ready, front}
+use Rattle.seek.specs.Source.{Source, listOf, Good}
+use Rattle.seek.specs.Fronts.{noneF}
+use Rattle.seek.specs.Seek.{Ready, Found}
 
--- n answers of q have been asked for, and the next is sought from line t
-pub record Led (rows : List ℕ) (src : Source) (q : Pattern) (n : ℕ) (s : List ℕ) (t : ℕ) : Type 0 where
-  pub fits : Fits rows 0 q 8
-  pub ready : Ready rows src s
-  pub rest : onward (eval (valuation src) q) t ≡ drop n (eval (valuation src) q)
+-- ── Seeking ──
 
--- from where the answer after r is sought, r being sought from t
-abbrev pub onFrom : ℕ → Front → ℕ
-onFrom t r = pickN (eqb (r .status) 1) (r .start + 1) t
-
--- a step answers answer number n, and leads on; past the last too
-pub record Stepped (rows : List ℕ) (src : Source) (q : Pattern) (n t : ℕ) (r : Front) (s' : List ℕ) : Type 0 where
-  pub is : r ≡ front (nth (eval (valuation src) q) n)
-  pub on : Led rows src q (n + 1) s' (onFrom t r)
-
-pub record NextOf (rows : List ℕ) (src : Source) (s : List ℕ) (t : ℕ) (r : Front) (s' : List ℕ) : Type 0 where
-  pub steps : (q : Pattern) (n : ℕ) → Led rows src q n s t → Stepped rows src q n t r s'
+-- where every list is fine and the state is one that seeks over this table left, the node's front; such a state again
+pub record FirstOf (src : Source) (rows s : List ℕ) (v t : ℕ) (r : Front) (s' : List ℕ) : Type 0 where
+  pub finds : v < 32 → Good src rows → Ready src rows s → Found src rows v t r s'
+  pub outside : 32 ≤ v → (r ≡ noneF) × (s' ≡ s)
 
 -- whatever the table, the state and the source
 pub record Ahead (t : ℕ) (r : Front) : Type 0 where
-  pub from : r .status ≡ 1 → t ≤ r .start
-  pub small : r .start < 65536
-  pub none : (r .status ≡ 1 → ⊥) → r ≡ noneF
+  pub from : r .start < 65536 → t ≤ r .start
+  pub small : r .start ≤ 65536
+  pub none : 65536 ≤ r .start → r ≡ noneF
 
 -- ── Filling ──
 
@@ -49,17 +33,21 @@ pub record Filling (l : List Stretch) (f : ℕ) (cells : List ℕ) (r : Walked) 
   pub more : r .more ≡ moreAfter l f cells
   pub wrote : cells' ≡ filled l f cells
 
-pub record FillAll (rows : List ℕ) (src : Source) (f : ℕ) (cells : List ℕ) (r : Walked) (cells' : List ℕ) : Type 0 where
-  pub fills : (q : Pattern) → Good src → Fits rows 0 q 8 → Filling (eval (valuation src) q) f cells r cells'
+-- where every list is fine, the answers of node 0 from the line on, from number f of them on
+pub record FillAll (src : Source) (rows : List ℕ) (line f : ℕ) (cells : List ℕ) (r : Walked) (cells' : List ℕ) : Type 0 where
+  pub fills : Good src rows → Filling (onward (listOf src rows 0) line) f cells r cells'
 
 -- whatever the table and the source: the written pairs fit, and what is beyond them keeps its contents
 pub record Within (cells : List ℕ) (r : Walked) (cells' : List ℕ) : Type 0 where
   pub fits : 2 * r .count ≤ length cells
   pub keeps : drop (2 * r .count) cells' ≡ drop (2 * r .count) cells
 
--- what the two walks of the filling call promise
-pub record Passed (rows : List ℕ) (src : Source) (s : List ℕ) (f t : ℕ) (s' : List ℕ) : Type 0 where
-  pub leads : (q : Pattern) → Led rows src q 0 s 0 → Led rows src q f s' t
+-- ── On the way: what the two walks of the filling call promise ──
 
-pub record Put (rows : List ℕ) (src : Source) (s : List ℕ) (t : ℕ) (cells : List ℕ) (r : Walked) (cells' : List ℕ) : Type 0 where
-  pub puts : (q : Pattern) (f : ℕ) → Led rows src q f s t → Filling (eval (valuation src) q) f cells r cells'
+-- n of the answers from line t on were passed over, and the next is sought from line t'
+pub record PassedOver (src : Source) (rows s : List ℕ) (t n t' : ℕ) (s' : List ℕ) : Type 0 where
+  pub ready : Good src rows → Ready src rows s → Ready src rows s'
+  pub rest : Good src rows → Ready src rows s → onward (listOf src rows 0) t' ≡ drop n (onward (listOf src rows 0) t)
+
+pub record Put (src : Source) (rows s : List ℕ) (t : ℕ) (cells : List ℕ) (r : Walked) (cells' : List ℕ) : Type 0 where
+  pub puts : Good src rows → Ready src rows s → Filling (onward (listOf src rows 0) t) 0 cells r cells'

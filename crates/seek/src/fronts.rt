@@ -1,34 +1,18 @@
 // Fronts, looks and what is kept of a node: small steps that no call goes out of.
 use crate::Front;
 ghost use mathlib.Core.Path.{_≡_};
-ghost use mathlib.Core.Bool.{true};
-ghost use Prim.Native.Nat.{_+_, _<_};
-ghost use lib.Dec.{ltb};
-ghost use Rattle.seek.specs.Moves.{
-  pickN,
-  noneF,
-  atF,
-  noLook,
-  lookOf,
-  betterOf,
-  clearOf,
-  shortOf,
-  hullOf,
-  linkOf,
-  toOf,
-  stepOf,
-  Serves,
-  heldAt,
-  askedAt,
-  putAt,
-};
+ghost use mathlib.Core.Bool.{true, not, _&&_};
+ghost use Prim.Native.Nat.{_<_, min, max};
+ghost use lib.Dec.{eqb};
+ghost use Rattle.stretches.specs.Stretch.{st};
+ghost use Rattle.seek.specs.Source.{measured, source};
+ghost use Rattle.seek.specs.Fronts.{noneF, atF, pastOf, noLook, lookOf, betterOf, Serves, putAt};
 
-// A front that may have to be passed over: good is 1 where it need not.
+// A front that may have to be passed over: good where it need not.
 pub struct Look {
-    pub status: u32,
     pub start: u32,
     pub end: u32,
-    pub good: u32,
+    pub good: bool,
 }
 
 pub(crate) fn wide(x: u32) -> usize
@@ -37,105 +21,71 @@ pub(crate) fn wide(x: u32) -> usize
     x as usize
 }
 
+pub(crate) fn at(start: u32, end: u32) -> Front
+    ensures { λ r. ⌜ r ≡ atF start end ⌝ }
+{
+    Front { start, end }
+}
+
 pub(crate) fn none() -> Front
     ensures { λ r. ⌜ r ≡ noneF ⌝ }
 {
     Front {
-        status: 2,
-        start: 0,
-        end: 0,
+        start: 65536,
+        end: 65536,
     }
 }
 
-pub(crate) fn at(start: u32, end: u32) -> Front
-    ensures { λ r. ⌜ r ≡ atF start end ⌝ }
+pub(crate) fn look_of(start: u32, end: u32, good: bool) -> Look
+    ensures { λ r. ⌜ r ≡ lookOf start end good ⌝ }
 {
-    Front {
-        status: 1,
-        start,
-        end,
-    }
+    Look { start, end, good }
 }
 
 pub(crate) fn no_look() -> Look
     ensures { λ r. ⌜ r ≡ noLook ⌝ }
 {
     Look {
-        status: 2,
-        start: 0,
-        end: 0,
-        good: 0,
+        start: 65536,
+        end: 65536,
+        good: false,
     }
 }
 
-pub(crate) fn look_of(f: Front, good: u32) -> Look
-    ensures { λ r. ⌜ r ≡ lookOf f good ⌝ }
+// The line after n; 65,537 where there is none.
+pub(crate) fn past(n: u32) -> u32
+    ensures { λ r. ⌜ r ≡ pastOf n ⌝ }
 {
-    Look {
-        status: 1,
-        start: f.start,
-        end: f.end,
-        good,
-    }
+    if n < 65536 { n + 1 } else { 65537 }
 }
 
-// Whether a front that was found from `asked` serves a seek to t.
-pub(crate) fn serves(f: Front, asked: u32, t: u32) -> bool
-    ensures { λ r. ⌜ (r ≡ true → Serves f asked t) ⌝ }
+// Whether what is kept of v serves a seek to t.
+pub(crate) fn serves(st: &[u32; 128], v: usize, t: u32) -> bool
+    requires { ⌜ v < 32 ⌝ }
+    ensures { λ r. ⌜ (r ≡ true → Serves (now (st .entry)) v t) ⌝ }
 {
-    if t < asked {
+    if st[v] <= t {
         return false;
     }
-    if f.status == 2 {
-        return true;
-    }
-    if f.status != 1 {
+    if t < st[64 + v] {
         return false;
     }
-    if t <= f.start {
-        return true;
-    }
-    false
+    true
 }
 
-pub(crate) fn front_of(st: &[u32; 192], v: usize) -> Front
-    requires { ⌜ v < 32 ⌝ }
-    ensures { λ r. ⌜ r ≡ heldAt (now (st .entry)) v ⌝ }
-{
-    Front {
-        status: st[4 * v],
-        start: st[4 * v + 1],
-        end: st[4 * v + 2],
-    }
-}
-
-pub(crate) fn asked_of(st: &[u32; 192], v: usize) -> u32
-    requires { ⌜ v < 32 ⌝ }
-    ensures { λ r. ⌜ r ≡ askedAt (now (st .entry)) v ⌝ }
-{
-    st[4 * v + 3]
-}
-
-pub(crate) fn put_front(st: &mut [u32; 192], v: usize, f: Front, t: u32)
+pub(crate) fn put_front(st: &mut [u32; 128], v: usize, f: Front, t: u32)
     requires { ⌜ v < 32 ⌝ }
     ensures { λ _. ⌜ now (st .exit) ≡ putAt (now (st .entry)) v f t ⌝ }
 {
-    st[4 * v] = f.status;
-    st[4 * v + 1] = f.start;
-    st[4 * v + 2] = f.end;
-    st[4 * v + 3] = t;
+    st[v] = past(f.start);
+    st[32 + v] = f.end;
+    st[64 + v] = t;
 }
 
 // Of two fronts the one with the least end, of equal ends the one with the greatest start.
 pub(crate) fn better(a: Front, b: Front) -> Front
     ensures { λ r. ⌜ r ≡ betterOf a b ⌝ }
 {
-    if a.status != 1 {
-        return b;
-    }
-    if b.status != 1 {
-        return a;
-    }
     if b.end < a.end {
         return b;
     }
@@ -145,113 +95,33 @@ pub(crate) fn better(a: Front, b: Front) -> Front
     if a.start < b.start { b } else { a }
 }
 
-fn least(a: u32, b: u32) -> u32
-    ensures { λ r. ⌜ r ≡ pickN (ltb b a) b a ⌝ }
+pub(crate) fn least(a: u32, b: u32) -> u32
+    ensures { λ r. ⌜ r ≡ min a b ⌝ }
 {
     if b < a { b } else { a }
 }
 
-fn most(a: u32, b: u32) -> u32
-    ensures { λ r. ⌜ r ≡ pickN (ltb a b) b a ⌝ }
+pub(crate) fn most(a: u32, b: u32) -> u32
+    ensures { λ r. ⌜ r ≡ max a b ⌝ }
 {
     if a < b { b } else { a }
 }
 
-// The hull of what was passed and a front.
-fn hull(h: Look, f: Front) -> Look
-    ensures { λ r. ⌜ r ≡ hullOf h f ⌝ }
+// Whether a front that does not start at line `to` breaks the chain.
+pub(crate) fn breaks(tight: bool, start: u32, to: u32) -> bool
+    ensures { λ r. ⌜ r ≡ (tight && not (eqb start to)) ⌝ }
 {
-    let s = least(h.start, f.start);
-    let e = most(h.end, f.end);
-    Look {
-        status: 1,
-        start: s,
-        end: e,
-        good: 1,
-    }
+    if tight { start != to } else { false }
 }
 
-// A chain made longer by a front: good while each front starts right after the one before.
-fn link(h: Look, f: Front) -> Look
-    ensures { λ r. ⌜ r ≡ linkOf h f ⌝ }
-{
-    let next = after(h);
-    if h.good != 1 {
-        return Look {
-            status: 1,
-            start: h.start,
-            end: f.end,
-            good: 0,
-        };
-    }
-    if f.start != next {
-        return Look {
-            status: 1,
-            start: h.start,
-            end: f.end,
-            good: 0,
-        };
-    }
-    Look {
-        status: 1,
-        start: h.start,
-        end: f.end,
-        good: 1,
-    }
-}
-
-// The line after what was passed, at most 65536.
-fn after(h: Look) -> u32
-    ensures { λ r. ⌜ r ≡ pickN (ltb (h .end) 65536) (h .end + 1) 65536 ⌝ }
-{
-    let e = h.end;
-    if e < 65536 { e + 1 } else { 65536 }
-}
-
-// From where the next operand is sought: from t for `and`, from past what was passed for `row` and `then`.
-pub(crate) fn to_of(kind: usize, t: u32, h: Look) -> u32
-    ensures { λ r. ⌜ r ≡ toOf kind t h ⌝ }
-{
-    if kind == 2 {
-        return t;
-    }
-    after(h)
-}
-
-// What was passed, with a front more.
-pub(crate) fn step(kind: usize, h: Look, f: Front) -> Look
-    ensures { λ r. ⌜ r ≡ stepOf kind h f ⌝ }
-{
-    if kind == 2 {
-        return hull(h, f);
-    }
-    link(h, f)
-}
-
-// 1 where b, a front from a's start on, does not end within a.
-pub(crate) fn clear(b: Front, a: Front) -> u32
-    ensures { λ r. ⌜ r ≡ clearOf b a ⌝ }
-{
-    if b.status != 1 {
-        return 1;
-    }
-    if b.end <= a.end {
-        return 0;
-    }
-    1
-}
-
-// 1 where a front is at most k lines long.
-pub(crate) fn short(a: Front, k: usize) -> u32
-    ensures { λ r. ⌜ r ≡ shortOf a k ⌝ }
+// What `max` measures of a front: its lines.
+pub(crate) fn measure(words: &[u64], items: &[u32], a: Front) -> usize
+    ensures { λ r. ⌜ r ≡ measured (source (now (words .entry)) (now (items .entry))) (st (a .start) (a .end)) ⌝ }
 {
     let s = a.start;
     let e = a.end;
     if e < s {
         return 0;
     }
-    if k <= wide(e - s) {
-        return 0;
-    }
-    1
+    wide(e - s) + 1
 }

@@ -1,55 +1,104 @@
-// A leaf over either source.
+// Leaves: a row of marks, or a lent list.
 use crate::Front;
 use crate::fronts::at;
 use crate::fronts::none;
-use crate::lines::next_line;
-use crate::lists::seek_list;
-ghost use Prim.Native.Nat.{_<_};
-ghost use Rattle.seek.specs.Source.{source};
-ghost use Rattle.seek.specs.Leaves.{LineSought, LeafFound};
+use crate::fronts::wide;
+ghost use mathlib.Core.Path.{_≡_};
+ghost use Prim.Native.Nat.{_<_, _≤_};
+ghost use Rattle.stretches.specs.Table.{firstAt, secondAt};
+ghost use Rattle.seek.specs.Fronts.{atF};
+ghost use Rattle.seek.specs.Leaves.{Resumed, Ran, ListFound, RowFound};
 
-// The first matching line from t on, sought from line `line`, which begins at `place`; the cursor reached is kept.
-fn walk_on(
-    rows: &[usize; 128],
-    log: &[u8],
-    st: &mut [u32; 192],
-    v: usize,
-    line: u32,
-    place: u32,
-    t: u32,
-) -> Front
-    requires { ⌜ v < 32 ⌝ }
-    ensures { λ r. ⌜ LineSought (now (rows .entry)) (now (log .entry)) v line place t (now (st .entry)) r (now (st .exit)) ⌝ }
+// The front of one line; none from line 65,536 on.
+fn at_line(line: usize) -> Front
+    ensures { λ r. ⌜ (line < 65536 → r ≡ atF line line) ⌝ }
 {
-    let f = next_line(log, rows[v], rows[64 + v], rows[96 + v], line, place, t);
-    st[128 + v] = f.next;
-    st[160 + v] = f.place;
+    if 65535 < line {
+        return none();
+    }
+    let p = line as u32;
+    at(p, p)
+}
+
+// The first marked line from t on of the row that the leaf's numbers name.
+pub(crate) fn seek_row(rows: &[usize; 128], words: &[u64], v: usize, t: u32) -> Front
+    requires { ⌜ v < 32 ⌝ }
+    ensures { λ r. ⌜ RowFound (now (words .entry)) (firstAt (now (rows .entry)) v) (secondAt (now (rows .entry)) v) t r ⌝ }
+{
+    let f = marks::next(words, rows[64 + v], rows[96 + v], t as usize);
     if f.hit {
-        return at(f.line, f.line);
+        return at_line(f.line);
     }
     none()
 }
 
-// A leaf reads a lent list where lists are lent, and the log else: from the kept line if that is not past t, else from the log's start.
-pub(crate) fn seek_leaf(
+fn hint_of(x: usize) -> u32 {
+    if x < 4294967296 { x as u32 } else { 0 }
+}
+
+// The place c if it is one of the list from lo to hi, and the stretch before it starts before t; else lo.
+fn resume(items: &[u32], lo: usize, hi: usize, c: usize, t: u32) -> usize
+    requires { do ⌜ (lo ≤ hi) × (hi ≤ (← ⟦items.len()⟧)) ⌝ }
+    ensures { λ r. ⌜ Resumed (now (items .entry)) lo hi t r ⌝ }
+{
+    if c < lo {
+        return lo;
+    }
+    if c - lo < 2 {
+        return lo;
+    }
+    if hi < c {
+        return lo;
+    }
+    if (c - lo) % 2 != 0 {
+        return lo;
+    }
+    if t <= items[c - 2] {
+        return lo;
+    }
+    c
+}
+
+// From place p on, the first stretch that starts at or after t; the last place if there is none.
+fn run(items: &[u32], p: usize, hi: usize, t: u32) -> usize
+    requires { do ⌜ (p ≤ hi) × (hi ≤ (← ⟦items.len()⟧)) ⌝ }
+    ensures { λ r. ⌜ Ran (now (items .entry)) p hi t r ⌝ }
+{
+    let mut i = p;
+    while i + 1 < hi {
+        if t <= items[i] {
+            return i;
+        }
+        i += 2;
+    }
+    i
+}
+
+// The first stretch from t on of the list that lies between the leaf's two places; none where it lies outside the items.
+pub(crate) fn seek_list(
     rows: &[usize; 128],
-    log: &[u8],
     items: &[u32],
-    ends: &[u32],
-    st: &mut [u32; 192],
+    st: &mut [u32; 128],
     v: usize,
     t: u32,
 ) -> Front
     requires { ⌜ v < 32 ⌝ }
-    ensures { λ r. ⌜ LeafFound (now (rows .entry)) (source (now (log .entry)) (now (items .entry)) (now (ends .entry))) v t (now (st .entry)) r (now (st .exit)) ⌝ }
+    ensures { λ r. ⌜ ListFound (now (items .entry)) (firstAt (now (rows .entry)) v) (secondAt (now (rows .entry)) v) t (now (st .entry)) r (now (st .exit)) ⌝ }
 {
-    if ends.len() != 0 {
-        return seek_list(rows, items, ends, st, v, t);
+    let lo = rows[64 + v];
+    let hi = rows[96 + v];
+    if hi < lo {
+        return none();
     }
-    let line = st[128 + v];
-    let place = st[160 + v];
-    if line <= t {
-        return walk_on(rows, log, st, v, line, place, t);
+    if items.len() < hi {
+        return none();
     }
-    walk_on(rows, log, st, v, 0, 0, t)
+    let c = wide(st[96 + v]);
+    let p = resume(items, lo, hi, c, t);
+    let r = run(items, p, hi, t);
+    st[96 + v] = hint_of(r);
+    if hi <= r + 1 {
+        return none();
+    }
+    at(items[r], items[r + 1])
 }

@@ -1,22 +1,21 @@
-// The seek machine: over a pattern's table and a source of leaves, the first stretch of a node's list from a line on; and the walk over all answers.
+// The search machine: over a table of nodes and what its leaves read, the first stretch of a node's list from a line on; and the walk over all answers.
 //
-// rows: the table of a pattern, in four columns of 32: kind, size of the subtree, first number, second number.
-// log, items, ends: what the leaves read. Where lists are lent (ends is not empty), the list that the leaf's first number names; else the log.
-// st: for node v at 4 v its status (0 unread, 1 at, 2 none), start, end and the line it was asked from. At 128 + v, over lists, a place in the items,
-// only a hint; over a log, at 128 + v and 160 + v, a line's number and the byte place where it begins.
+// rows: the table, in four columns of 32: kind, size of the subtree, first number, second number. Kinds: 1 or, 2 and, 3 row, 4 then, 5 less,
+// 6 max with its bound as first number, 16 a row of marks with its first word and width, 17 a lent list with its places from and to.
+// words, items: what the leaves read; rows of marks, and starts and ends in turn.
+// st: what is kept, in four columns of 32: one past the start (0: nothing), the end, the line asked from, and over lists a place in the items, only a hint.
+mod folding;
 mod fronts;
 mod leaves;
-mod lines;
-mod lists;
 mod machine;
 mod table;
 
+pub use folding::fold;
 ghost use Rattle.seek.specs.Source.{source};
-ghost use Rattle.seek.specs.Steps.{NextOf, Ahead, Passed, Put, FillAll, Within};
+ghost use Rattle.seek.specs.Steps.{FirstOf, Ahead, PassedOver, Put, FillAll, Within};
 
-// Status 1: the stretch from start to end. Status 2: none.
+// The stretch from start to end; none where both are 65,536, one past every line.
 pub struct Front {
-    pub status: u32,
     pub start: u32,
     pub end: u32,
 }
@@ -27,54 +26,54 @@ pub struct Walked {
     pub more: bool,
 }
 
-// The next answer: the first of the root that starts at or after t, which is one past the last answer's start; none where there is no more.
-// A table, a state or a source that no opening made gets some front, or none.
-pub fn next(
+// The first stretch of node v that starts at or after t, and none where there is none or no node v. The state serves the next call over the same
+// table and source; at first it is zeros. With a state that no such call left, or a list that is not fine, the front is free.
+pub fn first(
     rows: &[usize; 128],
-    log: &[u8],
+    words: &[u64],
     items: &[u32],
-    ends: &[u32],
-    st: &mut [u32; 192],
+    st: &mut [u32; 128],
+    v: usize,
     t: u32,
 ) -> Front
-    ensures { λ r. ⌜ NextOf (now (rows .entry)) (source (now (log .entry)) (now (items .entry)) (now (ends .entry))) (now (st .entry)) t r (now (st .exit)) ⌝ }
+    ensures { λ r. ⌜ FirstOf (source (now (words .entry)) (now (items .entry))) (now (rows .entry)) (now (st .entry)) v t r (now (st .exit)) ⌝ }
     ensures { λ r. ⌜ Ahead t r ⌝ }
 {
-    let f = machine::seek(rows, log, items, ends, st, 0, t, 8);
-    if f.status != 1 {
+    if 32 <= v {
         return fronts::none();
     }
+    let f = machine::seek(rows, words, items, st, v, t);
     let s = f.start;
-    if s < t {
+    if 65536 <= s {
         return fronts::none();
     }
-    if 65535 < s {
+    if s < t {
         return fronts::none();
     }
     f
 }
 
-// Passes over the answers before number `from`: the line from which that answer is sought.
+// Passes over n answers from line t0 on: the line from which the next is sought.
 fn pass_over(
     rows: &[usize; 128],
-    log: &[u8],
+    words: &[u64],
     items: &[u32],
-    ends: &[u32],
-    st: &mut [u32; 192],
-    from: usize,
+    st: &mut [u32; 128],
+    t0: u32,
+    n: usize,
 ) -> u32
-    ensures { λ r. ⌜ Passed (now (rows .entry)) (source (now (log .entry)) (now (items .entry)) (now (ends .entry))) (now (st .entry)) from r (now (st .exit)) ⌝ }
+    ensures { λ r. ⌜ PassedOver (source (now (words .entry)) (now (items .entry))) (now (rows .entry)) (now (st .entry)) t0 n r (now (st .exit)) ⌝ }
 {
-    let mut t: u32 = 0;
-    let mut n: usize = 0;
-    while n < from {
-        let f = next(rows, log, items, ends, st, t);
-        if f.status != 1 {
+    let mut t = t0;
+    let mut k: usize = 0;
+    while k < n {
+        let f = first(rows, words, items, st, 0, t);
+        let s = f.start;
+        if 65536 <= s {
             return t;
         }
-        let s = f.start;
         t = s + 1;
-        n += 1;
+        k += 1;
     }
     t
 }
@@ -82,36 +81,35 @@ fn pass_over(
 // Writes the answers from line t0 on into the cells, as many as whole pairs fit.
 fn put_all(
     rows: &[usize; 128],
-    log: &[u8],
+    words: &[u64],
     items: &[u32],
-    ends: &[u32],
-    st: &mut [u32; 192],
+    st: &mut [u32; 128],
     t0: u32,
     cells: &mut [u32],
 ) -> Walked
-    ensures { λ r. ⌜ Put (now (rows .entry)) (source (now (log .entry)) (now (items .entry)) (now (ends .entry))) (now (st .entry)) t0 (now (cells .entry)) r (now (cells .exit)) ⌝ }
+    ensures { λ r. ⌜ Put (source (now (words .entry)) (now (items .entry))) (now (rows .entry)) (now (st .entry)) t0 (now (cells .entry)) r (now (cells .exit)) ⌝ }
     ensures { λ r. ⌜ Within (now (cells .entry)) r (now (cells .exit)) ⌝ }
 {
     let mut t = t0;
     let mut n: usize = 0;
     let mut room = cells.len();
     while 2 <= room {
-        let a = next(rows, log, items, ends, st, t);
-        if a.status != 1 {
+        let a = first(rows, words, items, st, 0, t);
+        let s = a.start;
+        if 65536 <= s {
             return Walked {
                 count: n,
                 more: false,
             };
         }
-        let s = a.start;
         cells[2 * n] = s;
         cells[2 * n + 1] = a.end;
         room -= 2;
         n += 1;
         t = s + 1;
     }
-    let b = next(rows, log, items, ends, st, t);
-    if b.status != 1 {
+    let b = first(rows, words, items, st, 0, t);
+    if 65536 <= b.start {
         return Walked {
             count: n,
             more: false,
@@ -123,20 +121,20 @@ fn put_all(
     }
 }
 
-// Writes the answers from number `from` on into the cells, start then end, as many as whole pairs fit; later cells keep their contents.
-// A table or a source that no caller checked gets some stretches written, no more than fit.
+// Writes the answers of node 0 that start at or after `line`, from number `from` of them on, into the cells, start then end, as many as whole pairs
+// fit; later cells keep their contents. With a list that is not fine some stretches are written, no more than fit.
 pub fn fill(
     rows: &[usize; 128],
-    log: &[u8],
+    words: &[u64],
     items: &[u32],
-    ends: &[u32],
     cells: &mut [u32],
+    line: u32,
     from: usize,
 ) -> Walked
-    ensures { λ r. ⌜ FillAll (now (rows .entry)) (source (now (log .entry)) (now (items .entry)) (now (ends .entry))) from (now (cells .entry)) r (now (cells .exit)) ⌝ }
+    ensures { λ r. ⌜ FillAll (source (now (words .entry)) (now (items .entry))) (now (rows .entry)) line from (now (cells .entry)) r (now (cells .exit)) ⌝ }
     ensures { λ r. ⌜ Within (now (cells .entry)) r (now (cells .exit)) ⌝ }
 {
-    let mut st = [0u32; 192];
-    let t = pass_over(rows, log, items, ends, &mut st, from);
-    put_all(rows, log, items, ends, &mut st, t, cells)
+    let mut st = [0u32; 128];
+    let t = pass_over(rows, words, items, &mut st, line, from);
+    put_all(rows, words, items, &mut st, t, cells)
 }

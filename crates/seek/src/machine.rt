@@ -1,182 +1,207 @@
-// The machine: node v brought to its first stretch that starts at or after t. The calls go round: a node seeks its operands.
+// The machine: node v brought to its first stretch that starts at or after t. The calls go round: a node seeks its operands, whose numbers are
+// higher than its own.
 use crate::Front;
 use crate::fronts::Look;
-use crate::fronts::asked_of;
 use crate::fronts::at;
 use crate::fronts::better;
-use crate::fronts::clear;
-use crate::fronts::front_of;
+use crate::fronts::breaks;
+use crate::fronts::least;
 use crate::fronts::look_of;
+use crate::fronts::measure;
+use crate::fronts::most;
 use crate::fronts::no_look;
 use crate::fronts::none;
+use crate::fronts::past;
 use crate::fronts::put_front;
 use crate::fronts::serves;
-use crate::fronts::short;
-use crate::fronts::step;
-use crate::fronts::to_of;
-use crate::leaves::seek_leaf;
+use crate::leaves::seek_list;
+use crate::leaves::seek_row;
 use crate::table::next_of;
 use crate::table::stop_of;
 ghost use mathlib.Core.Path.{_≡_};
-ghost use Prim.Native.Nat.{_+_, _<_, _≤_};
-ghost use Rattle.pattern.specs.Rows.{kindAt};
+ghost use Prim.Native.Nat.{_+_, _<_};
+ghost use Rattle.stretches.specs.Table.{kindAt, stopOf};
 ghost use Rattle.seek.specs.Source.{source};
-ghost use Rattle.seek.specs.Seek.{Narrows, Skips, Sought, Looked};
+ghost use Rattle.seek.specs.Seek.{Chains, Narrows, Filters, Skips, Sought, Looked, Tested};
 
 // `or`: the best of the operands' fronts.
 fn seek_or(
     rows: &[usize; 128],
-    log: &[u8],
+    words: &[u64],
     items: &[u32],
-    ends: &[u32],
-    st: &mut [u32; 192],
+    st: &mut [u32; 128],
     v: usize,
     t: u32,
-    fuel: u32,
 ) -> Front
     requires { ⌜ v < 32 ⌝ }
-    ensures { λ r. ⌜ (kindAt (now (rows .entry)) v ≡ 1 → Sought (now (rows .entry)) (source (now (log .entry)) (now (items .entry)) (now (ends .entry))) (now (st .entry)) v t (fuel + 1) r (now (st .exit))) ⌝ }
+    ensures { λ r. ⌜ (kindAt (now (rows .entry)) v ≡ 1 → Sought (source (now (words .entry)) (now (items .entry))) (now (rows .entry)) (now (st .entry)) v t r (now (st .exit))) ⌝ }
 {
     let stop = stop_of(rows, v);
     let mut c = v + 1;
     let mut best = none();
     while c < stop {
-        let f = seek(rows, log, items, ends, st, c, t, fuel);
+        let f = seek(rows, words, items, st, c, t);
         best = better(best, f);
         c = next_of(rows, c);
     }
     best
 }
 
-// One pass over v's operands from t on, for `and`, `then` and `row`: none where an operand has none.
-fn pass(
+// `and`: the span of the operands' fronts from t on.
+fn span(
     rows: &[usize; 128],
-    log: &[u8],
+    words: &[u64],
     items: &[u32],
-    ends: &[u32],
-    st: &mut [u32; 192],
+    st: &mut [u32; 128],
     v: usize,
     t: u32,
-    fuel: u32,
 ) -> Look
-    requires { ⌜ v < 31 ⌝ }
-    ensures { λ r. ⌜ (kindAt (now (rows .entry)) v ≤ 4 → 2 ≤ kindAt (now (rows .entry)) v → Looked (now (rows .entry)) (source (now (log .entry)) (now (items .entry)) (now (ends .entry))) (now (st .entry)) v t fuel r (now (st .exit))) ⌝ }
+    requires { ⌜ (v < 32) × (v + 1 < stopOf (now rows) v) ⌝ }
+    ensures { λ r. ⌜ (kindAt (now (rows .entry)) v ≡ 2 → Looked (source (now (words .entry)) (now (items .entry))) (now (rows .entry)) (now (st .entry)) v t r (now (st .exit))) ⌝ }
 {
-    let kind = rows[v];
     let stop = stop_of(rows, v);
-    let a = seek(rows, log, items, ends, st, v + 1, t, fuel);
-    if a.status != 1 {
-        return no_look();
-    }
-    let mut h = look_of(a, 1);
-    let mut c = next_of(rows, v + 1);
+    let mut s: u32 = 65536;
+    let mut e: u32 = 0;
+    let mut c = v + 1;
     while c < stop {
-        let f = seek(rows, log, items, ends, st, c, to_of(kind, t, h), fuel);
-        if f.status != 1 {
+        let f = seek(rows, words, items, st, c, t);
+        if 65536 <= f.start {
             return no_look();
         }
-        h = step(kind, h, f);
+        s = least(s, f.start);
+        e = most(e, f.end);
         c = next_of(rows, c);
     }
-    h
+    look_of(s, e, true)
 }
 
-fn look_less(
+// `row` and `then`: the first operand's front from t on, then each next one's from past the one before. `row` is given up where one does not start there.
+fn chain(
     rows: &[usize; 128],
-    log: &[u8],
+    words: &[u64],
     items: &[u32],
-    ends: &[u32],
-    st: &mut [u32; 192],
+    st: &mut [u32; 128],
     v: usize,
     t: u32,
-    fuel: u32,
 ) -> Look
-    requires { ⌜ v < 31 ⌝ }
-    ensures { λ r. ⌜ (kindAt (now (rows .entry)) v ≡ 5 → Looked (now (rows .entry)) (source (now (log .entry)) (now (items .entry)) (now (ends .entry))) (now (st .entry)) v t fuel r (now (st .exit))) ⌝ }
+    requires { ⌜ (v < 32) × (v + 1 < stopOf (now rows) v) ⌝ }
+    ensures { λ r. ⌜ (Chains (kindAt (now (rows .entry)) v) → Looked (source (now (words .entry)) (now (items .entry))) (now (rows .entry)) (now (st .entry)) v t r (now (st .exit))) ⌝ }
 {
-    let other = next_of(rows, v + 1);
-    if 32 <= other {
-        return no_look();
-    }
-    let a = seek(rows, log, items, ends, st, v + 1, t, fuel);
-    if a.status != 1 {
-        return no_look();
-    }
+    let tight = rows[v] == 3;
+    let stop = stop_of(rows, v);
+    let a = seek(rows, words, items, st, v + 1, t);
     let s = a.start;
-    let b = seek(rows, log, items, ends, st, other, s, fuel);
-    look_of(a, clear(b, a))
-}
-
-fn look_max(
-    rows: &[usize; 128],
-    log: &[u8],
-    items: &[u32],
-    ends: &[u32],
-    st: &mut [u32; 192],
-    v: usize,
-    t: u32,
-    fuel: u32,
-) -> Look
-    requires { ⌜ v < 31 ⌝ }
-    ensures { λ r. ⌜ (kindAt (now (rows .entry)) v ≡ 6 → Looked (now (rows .entry)) (source (now (log .entry)) (now (items .entry)) (now (ends .entry))) (now (st .entry)) v t fuel r (now (st .exit))) ⌝ }
-{
-    let k = rows[64 + v];
-    let a = seek(rows, log, items, ends, st, v + 1, t, fuel);
-    if a.status != 1 {
+    if 65536 <= s {
         return no_look();
     }
-    look_of(a, short(a, k))
+    let mut e = a.end;
+    let mut c = next_of(rows, v + 1);
+    while c < stop {
+        let to = past(e);
+        let f = seek(rows, words, items, st, c, to);
+        if 65536 <= f.start {
+            return no_look();
+        }
+        if breaks(tight, f.start, to) {
+            return look_of(s, e, false);
+        }
+        e = f.end;
+        c = next_of(rows, c);
+    }
+    look_of(s, e, true)
 }
 
-// What v's kind offers first from t on, to be kept or passed over.
+// Whether a front of v's first operand passes the test of v's kind.
+fn passes(
+    rows: &[usize; 128],
+    words: &[u64],
+    items: &[u32],
+    st: &mut [u32; 128],
+    v: usize,
+    a: Front,
+) -> bool
+    requires { ⌜ (v < 32) × (v + 1 < stopOf (now rows) v) ⌝ }
+    ensures { λ r. ⌜ Tested (source (now (words .entry)) (now (items .entry))) (now (rows .entry)) (now (st .entry)) v a r (now (st .exit)) ⌝ }
+{
+    if rows[v] == 6 {
+        return measure(words, items, a) <= rows[64 + v];
+    }
+    let other = next_of(rows, v + 1);
+    if stop_of(rows, v) <= other {
+        return true;
+    }
+    let b = seek(rows, words, items, st, other, a.start);
+    a.end < b.end
+}
+
+// The filters: the first operand's front from t on, good where it passes the test.
+fn filter(
+    rows: &[usize; 128],
+    words: &[u64],
+    items: &[u32],
+    st: &mut [u32; 128],
+    v: usize,
+    t: u32,
+) -> Look
+    requires { ⌜ (v < 32) × (v + 1 < stopOf (now rows) v) ⌝ }
+    ensures { λ r. ⌜ (Filters (kindAt (now (rows .entry)) v) → Looked (source (now (words .entry)) (now (items .entry))) (now (rows .entry)) (now (st .entry)) v t r (now (st .exit))) ⌝ }
+{
+    let a = seek(rows, words, items, st, v + 1, t);
+    if 65536 <= a.start {
+        return no_look();
+    }
+    let good = passes(rows, words, items, st, v, a);
+    look_of(a.start, a.end, good)
+}
+
+// What an operator but `or` offers first from t on.
 fn look_at(
     rows: &[usize; 128],
-    log: &[u8],
+    words: &[u64],
     items: &[u32],
-    ends: &[u32],
-    st: &mut [u32; 192],
+    st: &mut [u32; 128],
     v: usize,
     t: u32,
-    fuel: u32,
 ) -> Look
-    requires { ⌜ v < 31 ⌝ }
-    ensures { λ r. ⌜ Looked (now (rows .entry)) (source (now (log .entry)) (now (items .entry)) (now (ends .entry))) (now (st .entry)) v t fuel r (now (st .exit)) ⌝ }
+    requires { ⌜ v < 32 ⌝ }
+    ensures { λ r. ⌜ Looked (source (now (words .entry)) (now (items .entry))) (now (rows .entry)) (now (st .entry)) v t r (now (st .exit)) ⌝ }
 {
+    if stop_of(rows, v) <= v + 1 {
+        return no_look();
+    }
     let kind = rows[v];
-    if kind == 5 {
-        return look_less(rows, log, items, ends, st, v, t, fuel);
+    if kind == 2 {
+        return span(rows, words, items, st, v, t);
     }
-    if kind == 6 {
-        return look_max(rows, log, items, ends, st, v, t, fuel);
+    if kind == 3 {
+        return chain(rows, words, items, st, v, t);
     }
-    pass(rows, log, items, ends, st, v, t, fuel)
+    if kind == 4 {
+        return chain(rows, words, items, st, v, t);
+    }
+    filter(rows, words, items, st, v, t)
 }
 
-// `and` and `then`: the last pass that still ends where the first does.
+// `and` and `then`: the last look that still ends where the first does.
 fn narrow(
     rows: &[usize; 128],
-    log: &[u8],
+    words: &[u64],
     items: &[u32],
-    ends: &[u32],
-    st: &mut [u32; 192],
+    st: &mut [u32; 128],
     v: usize,
     t: u32,
-    fuel: u32,
 ) -> Front
-    requires { ⌜ v < 31 ⌝ }
-    ensures { λ r. ⌜ (Narrows (kindAt (now (rows .entry)) v) → Sought (now (rows .entry)) (source (now (log .entry)) (now (items .entry)) (now (ends .entry))) (now (st .entry)) v t (fuel + 1) r (now (st .exit))) ⌝ }
+    requires { ⌜ v < 32 ⌝ }
+    ensures { λ r. ⌜ (Narrows (kindAt (now (rows .entry)) v) → Sought (source (now (words .entry)) (now (items .entry))) (now (rows .entry)) (now (st .entry)) v t r (now (st .exit))) ⌝ }
 {
-    let a = look_at(rows, log, items, ends, st, v, t, fuel);
-    if a.status != 1 {
+    let a = look_at(rows, words, items, st, v, t);
+    if 65536 <= a.start {
         return none();
     }
     let mut m = a.start;
     let e = a.end;
     while m < 65536 {
-        let b = look_at(rows, log, items, ends, st, v, m + 1, fuel);
-        if b.status != 1 {
-            return at(m, e);
-        }
+        let b = look_at(rows, words, items, st, v, m + 1);
         if e < b.end {
             return at(m, e);
         }
@@ -189,34 +214,29 @@ fn narrow(
     at(m, e)
 }
 
-// `row`, `less` and `max`: the first look that is good.
+// `row` and the filters: the first look that is good.
 fn skip(
     rows: &[usize; 128],
-    log: &[u8],
+    words: &[u64],
     items: &[u32],
-    ends: &[u32],
-    st: &mut [u32; 192],
+    st: &mut [u32; 128],
     v: usize,
     t: u32,
-    fuel: u32,
 ) -> Front
-    requires { ⌜ v < 31 ⌝ }
-    ensures { λ r. ⌜ (Skips (kindAt (now (rows .entry)) v) → Sought (now (rows .entry)) (source (now (log .entry)) (now (items .entry)) (now (ends .entry))) (now (st .entry)) v t (fuel + 1) r (now (st .exit))) ⌝ }
+    requires { ⌜ v < 32 ⌝ }
+    ensures { λ r. ⌜ (Skips (kindAt (now (rows .entry)) v) → Sought (source (now (words .entry)) (now (items .entry))) (now (rows .entry)) (now (st .entry)) v t r (now (st .exit))) ⌝ }
 {
     let mut from = t;
     while from < 65536 {
-        let a = look_at(rows, log, items, ends, st, v, from, fuel);
-        if a.status != 1 {
-            return none();
-        }
-        if a.good == 1 {
-            return at(a.start, a.end);
-        }
+        let a = look_at(rows, words, items, st, v, from);
         let s = a.start;
-        if s < from {
+        if 65536 <= s {
             return none();
         }
-        if 65535 < s {
+        if a.good {
+            return at(s, a.end);
+        }
+        if s < from {
             return none();
         }
         from = s + 1;
@@ -224,61 +244,74 @@ fn skip(
     none()
 }
 
-// The front of v that is not yet read, by its kind.
+// The front of v of which nothing that serves is kept, by its kind. A kind that no list and no operator has finds none.
 fn fresh(
     rows: &[usize; 128],
-    log: &[u8],
+    words: &[u64],
     items: &[u32],
-    ends: &[u32],
-    st: &mut [u32; 192],
+    st: &mut [u32; 128],
     v: usize,
     t: u32,
-    fuel: u32,
 ) -> Front
     requires { ⌜ v < 32 ⌝ }
-    ensures { λ r. ⌜ Sought (now (rows .entry)) (source (now (log .entry)) (now (items .entry)) (now (ends .entry))) (now (st .entry)) v t (fuel + 1) r (now (st .exit)) ⌝ }
+    ensures { λ r. ⌜ Sought (source (now (words .entry)) (now (items .entry))) (now (rows .entry)) (now (st .entry)) v t r (now (st .exit)) ⌝ }
 {
     let kind = rows[v];
-    if 16 <= kind {
-        return seek_leaf(rows, log, items, ends, st, v, t);
+    if kind == 16 {
+        return seek_row(rows, words, v, t);
+    }
+    if kind == 17 {
+        return seek_list(rows, items, st, v, t);
     }
     if kind == 1 {
-        return seek_or(rows, log, items, ends, st, v, t, fuel);
-    }
-    if 31 <= v {
-        return none();
+        return seek_or(rows, words, items, st, v, t);
     }
     if kind == 2 {
-        return narrow(rows, log, items, ends, st, v, t, fuel);
+        return narrow(rows, words, items, st, v, t);
     }
     if kind == 4 {
-        return narrow(rows, log, items, ends, st, v, t, fuel);
+        return narrow(rows, words, items, st, v, t);
     }
-    skip(rows, log, items, ends, st, v, t, fuel)
-}
-
-// Brings node v to its first stretch that starts at or after t.
-pub(crate) fn seek(
-    rows: &[usize; 128],
-    log: &[u8],
-    items: &[u32],
-    ends: &[u32],
-    st: &mut [u32; 192],
-    v: usize,
-    t: u32,
-    fuel: u32,
-) -> Front
-    requires { ⌜ v < 32 ⌝ }
-    ensures { λ r. ⌜ Sought (now (rows .entry)) (source (now (log .entry)) (now (items .entry)) (now (ends .entry))) (now (st .entry)) v t fuel r (now (st .exit)) ⌝ }
-{
-    let held = front_of(st, v);
-    if serves(held, asked_of(st, v), t) {
-        return held;
-    }
-    if fuel == 0 {
+    if kind == 0 {
         return none();
     }
-    let r = fresh(rows, log, items, ends, st, v, t, fuel - 1);
+    if 6 < kind {
+        return none();
+    }
+    skip(rows, words, items, st, v, t)
+}
+
+// The front of v, found anew and kept.
+fn renew(
+    rows: &[usize; 128],
+    words: &[u64],
+    items: &[u32],
+    st: &mut [u32; 128],
+    v: usize,
+    t: u32,
+) -> Front
+    requires { ⌜ v < 32 ⌝ }
+    ensures { λ r. ⌜ Sought (source (now (words .entry)) (now (items .entry))) (now (rows .entry)) (now (st .entry)) v t r (now (st .exit)) ⌝ }
+{
+    let r = fresh(rows, words, items, st, v, t);
     put_front(st, v, r, t);
     r
+}
+
+// Brings node v to its first stretch that starts at or after t. What is kept of it serves where it can.
+pub(crate) fn seek(
+    rows: &[usize; 128],
+    words: &[u64],
+    items: &[u32],
+    st: &mut [u32; 128],
+    v: usize,
+    t: u32,
+) -> Front
+    requires { ⌜ v < 32 ⌝ }
+    ensures { λ r. ⌜ Sought (source (now (words .entry)) (now (items .entry))) (now (rows .entry)) (now (st .entry)) v t r (now (st .exit)) ⌝ }
+{
+    if serves(st, v, t) {
+        return at(st[v] - 1, st[32 + v]);
+    }
+    renew(rows, words, items, st, v, t)
 }

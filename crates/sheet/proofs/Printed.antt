@@ -8,8 +8,8 @@ use lib.Seq.{drop-cons, take-nil, sets}
 use native.Mathlib.Omega.{arith}
 use Rattle.stretches.specs.Stretch.{Stretch, st}
 use Rattle.pattern.specs.Decimal.{decimal}
-use Rattle.meaning.specs.Lent.{pairs}
-use Rattle.meaning.specs.Filling.{flat}
+use Rattle.stretches.specs.Lent.{pairs}
+use Rattle.stretches.specs.Filling.{flat}
 use Rattle.sheet.specs.Sheet.{field, rows, shown}
 use Rattle.sheet.proofs.Placing.{sets-append}
 

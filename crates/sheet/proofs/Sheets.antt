@@ -13,20 +13,21 @@ use native.Mathlib.Omega.{arith}
 use Rattle.stretches.specs.Stretch.{Stretch}
 use Rattle.stretches.proofs.Answers.{Sound}
 use Rattle.stretches.proofs.Cut.{Below}
-use Rattle.event_log.specs.Reading.{says, counted}
-use Rattle.event_log.proofs.CountLaws.{counted-few}
+use Rattle.event_log.specs.Reading.{says}
+use Rattle.event_log.proofs.LinesLaws.{cut-few}
+use Rattle.event_log.proofs.Walk.{damaged-few}
 use Rattle.basics.proofs.Basics.{le-or-lt}
 use Rattle.pattern.proofs.Outcomes.{refuses-long}
 use Rattle.meaning.specs.declared.Filled.{Filled}
 use Rattle.meaning.specs.Refusals.{Refusal, refused, refusal}
-use Rattle.meaning.specs.Filling.{written, filled}
+use Rattle.stretches.specs.Filling.{written, filled}
 use Rattle.meaning.specs.Finding.{listOf, filling}
 use Rattle.meaning.proofs.Tree.{fine-answersOf}
 use Rattle.meaning.proofs.Run.{says-length}
-use Rattle.meaning.proofs.Filling.{done-all, room-done}
+use Rattle.stretches.proofs.Filling.{done-all, room-done}
 use Rattle.meaning.proofs.Finding.{long-log, bad-pattern, accepted-list, accepted-number}
 use Rattle.meaning.proofs.Bounds.{sized}
-use Rattle.finder.specs.Promises.{FillGives}
+use Rattle.marking.specs.Rows.{counted}
 use Rattle.sheet.specs.declared.input.Taken.{Taken}
 use Rattle.sheet.specs.Input.{patternOf, logOf, Keeps}
 use Rattle.sheet.specs.Sheet.{field, rows, foundSheet, refusedSheet, shown, sheetOf, printed, printedOf, Lays}
@@ -47,10 +48,10 @@ filled-sheet pattern log cells h =
     ap (λ (x : List Stretch). cond (eqb (refusal pattern log .number) 0) (foundSheet (counted log .lines) (counted log .damaged) x) (refusedSheet (refusal pattern log .number) (refusal pattern log .place))) s
 
 -- so the sheet that is written of it is that one
-pub fill-laid : (pattern log cells cells′ out out′ : List ℕ) (f : Filled) (r : ℕ) → FillGives pattern log 0 cells f cells′ → 122880 ≤ length cells
+pub fill-laid : (pattern log cells cells′ out out′ : List ℕ) (f : Filled) (r : ℕ) → (f ≡ filling pattern log 0 cells) × (cells′ ≡ filled (listOf pattern log) 0 cells) → 122880 ≤ length cells
     → Lays (sheetOf f log cells′) out r out′ → Lays (printed pattern log) out r out′
 fill-laid pattern log cells cells′ out out′ f r g h w =
-    subst (λ (s : List ℕ). Lays s out r out′) (ap₂ (λ (x : Filled) (m : List ℕ). sheetOf x log m) (g .result) (g .memory) ∙ filled-sheet pattern log cells h) w
+    subst (λ (s : List ℕ). Lays s out r out′) (ap₂ (λ (x : Filled) (m : List ℕ). sheetOf x log m) (g .0) (g .1) ∙ filled-sheet pattern log cells h) w
 
 -- ── Cut short ──
 
@@ -124,16 +125,16 @@ short-sheet pattern log = go (eqb (refusal pattern log .number) 0) refl
     found e =
         let a = accepted-number pattern log e in
         let f = fine-answersOf (a .tree) (says log) in
-        let c = counted-few log in
+        let few : length (says log) ≤ length log = omega (arith, says-length log, cut-few 10 log) in
         let z = accepted-list pattern log (a .tree) (a .brief) (a .reads) in
         let w : length (rows (listOf pattern log)) ≤ 12 * length (listOf pattern log) =
         subst (λ (x : List Stretch). length (rows x) ≤ 12 * length x) (sym z)
-        (short-rows _ (f .sound) (λ i j m. omega (arith, f .below i j m, says-length log, c .1, a .brief))) in
+        (short-rows _ (f .sound) (λ i j m. omega (arith, f .below i j m, few, a .brief))) in
         omega (
           arith,
           length-found (counted log .lines) (counted log .damaged) (listOf pattern log),
-          short-field (counted log .lines) 44 (omega (arith, c .1, a .brief)),
-          short-field (counted log .damaged) 44 (omega (arith, c .0, c .1, a .brief)),
+          short-field (counted log .lines) 44 (omega (arith, few, a .brief)),
+          short-field (counted log .damaged) 44 (omega (arith, damaged-few (says log), few, a .brief)),
           short-field (length (listOf pattern log)) 10 (omega (arith, sized pattern log .list)),
           sized pattern log .list,
           w,

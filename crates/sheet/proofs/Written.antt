@@ -10,11 +10,11 @@ use lib.Dec.{leb}
 use borrow.Author.Tests.{leb-true, leb-false, eq-eqb, ne-eqb, not-true, not-false}
 use native.Mathlib.Omega.{arith}
 use Rattle.stretches.specs.Stretch.{Stretch}
-use Rattle.event_log.specs.declared.Counted.{Counted}
-use Rattle.event_log.specs.Reading.{counted}
+use Rattle.marking.specs.declared.pass.Counted.{Counted}
+use Rattle.marking.specs.Rows.{counted}
 use Rattle.pattern.specs.Decimal.{decimal}
 use Rattle.meaning.specs.declared.Filled.{Filled}
-use Rattle.meaning.specs.Lent.{pairs}
+use Rattle.stretches.specs.Lent.{pairs}
 use Rattle.sheet.specs.Sheet.{field, rows, foundSheet, refusedSheet, shown, sheetOf, Lays}
 use Rattle.sheet.proofs.Placing.{sets-append, laid-fits, laid-not}
 use Rattle.sheet.proofs.Printed.{length-field, length-pairs, shown-most}

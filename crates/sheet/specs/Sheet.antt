@@ -7,10 +7,10 @@ use mathlib.Core.List.{List, [], _∷_, _++_}
 use lib.ListN.{length, take, drop}
 use lib.Dec.{leb, eqb}
 use Rattle.stretches.specs.Stretch.{Stretch, st}
-use Rattle.event_log.specs.Reading.{counted}
+use Rattle.marking.specs.Rows.{counted}
 use Rattle.pattern.specs.Decimal.{digitsOf, decimal}
 use Rattle.meaning.specs.declared.Filled.{Filled}
-use Rattle.meaning.specs.Lent.{pairs}
+use Rattle.stretches.specs.Lent.{pairs}
 use Rattle.meaning.specs.Refusals.{refusal}
 use Rattle.meaning.specs.Finding.{listOf}
 use Rattle.sheet.specs.Input.{patternOf, logOf}

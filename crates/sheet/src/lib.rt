@@ -5,12 +5,12 @@ pub use input::Taken;
 pub use input::take_piece;
 use meaning::Filled;
 ghost use mathlib.Core.Path.{_≡_};
-ghost use Prim.Native.Nat.{_+_, _*_, _/_, _≤_, _<_, min};
+ghost use Prim.Native.Nat.{_+_, _*_, _≤_, _<_, min};
 ghost use lib.ListN.{length, take, set};
 ghost use lib.Seq.{sets};
 ghost use lib.Dec.{leb};
 ghost use Rattle.pattern.specs.Decimal.{decimal};
-ghost use Rattle.meaning.specs.Lent.{pairs};
+ghost use Rattle.stretches.specs.Lent.{pairs};
 ghost use Rattle.sheet.specs.Sheet.{field, rows, foundSheet, refusedSheet, shown, sheetOf, printed, Lays};
 
 fn wide(x: u32) -> usize
@@ -172,7 +172,7 @@ pub fn write_sheet(f: Filled, log: &[u8], cells: &[u32], out: &mut [u8]) -> usiz
     if f.number != 0 {
         return write_refused(f.number, f.place, out);
     }
-    let c = event_log::count(log);
+    let c = marking::count(log);
     write_found(c.lines, c.damaged, cells, f.count, out)
 }
 

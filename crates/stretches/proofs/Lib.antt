@@ -9,6 +9,11 @@ pub mod Marks
 pub mod Steps
 pub mod Ordered
 pub mod Tight
+pub mod Union
+pub mod Fine
+pub mod Table
+pub mod Filling
+pub mod Lent
 pub mod Taking
 pub mod TakingAnd
 pub mod TakingCases

@@ -8,7 +8,7 @@ use mathlib.Core.List.{List, [], _∷_, map}
 use lib.Dec.{leb}
 use borrow.Author.Tests.{ltb-true, eqb-true, lt-ltb, eq-eqb}
 use native.Mathlib.Omega.{arith}
-use Rattle.stretches.specs.Stretch.{Stretch, st, In, low, high, linked, anyhow, adjoins, follows, Op, Or, And, Row, Then, Less, Max, containsNone, atMost, answers}
+use Rattle.stretches.specs.Stretch.{Stretch, st, In, low, high, linked, anyhow, adjoins, follows, Op, Or, And, Row, Then, Keep, Less, Max, containsNone, answers}
 use Rattle.stretches.specs.Run.{down}
 use Rattle.stretches.proofs.Lists.{NoneIn, none-in, none-in-test}
 use Rattle.basics.proofs.Basics.{cases, and-true, true-and}
@@ -116,14 +116,17 @@ picks-up r n (l ∷ ls) (l′ ∷ ls′) w e h (a ∷ t) p g =
 
 -- ── Candidates inside the window ──
 
--- the same operator over the lines and over the run; a measure measures alike inside the window
+-- two tests alike inside the window
+abbrev pub Tests : ℕ → ℕ → (List (List Stretch) → Stretch → Bool) → (List (List Stretch) → Stretch → Bool) → Type 0
+Tests r n f f′ = (ls ls′ : List (List Stretch)) → AllSound ls → Windows r n ls ls′ → (s e : ℕ) → e < n → f ls (st (r + s) (r + e)) ≡ f′ ls′ (st s e)
+
+-- the same operator over the lines and over the run; a filter's test tests alike inside the window
 pub data Alike (r n : ℕ) : Op → Op → Type 0 where
   or-alike : Alike r n Or Or
   and-alike : Alike r n And And
   row-alike : Alike r n Row Row
   then-alike : Alike r n Then Then
-  less-alike : Alike r n Less Less
-  max-alike : {m m′ : Stretch → ℕ} {k : ℕ} → ((s e : ℕ) → e < n → m (st (r + s) (r + e)) ≡ m′ (st s e)) → Alike r n (Max m k) (Max m′ k)
+  keep-alike : {f f′ : List (List Stretch) → Stretch → Bool} → Tests r n f f′ → Alike r n (Keep f) (Keep f′)
 
 module _ (r n : ℕ) where
   any-down : (ls ls′ : List (List Stretch)) → Windows r n ls ls′ → (s e : ℕ) → e < n → InAny (r + s) (r + e) ls → InAny s e ls′
@@ -172,12 +175,8 @@ module _ (r n : ℕ) where
       let k = d s′ e′ m in
       f (s′ - r) (e′ - r) (into r n b b′ w s′ e′ (omega arith) (omega arith) (omega arith) m) (omega arith) (omega arith)
 
-  -- two tests alike inside the window
-  abbrev Tests : (List (List Stretch) → Stretch → Bool) → (List (List Stretch) → Stretch → Bool) → List (List Stretch) → List (List Stretch) → Type 0
-  Tests f f′ ls ls′ = (s e : ℕ) → e < n → f ls (st (r + s) (r + e)) ≡ f′ ls′ (st s e)
-
   -- less passes over a stretch by what B has inside it
-  none-alike : (ls ls′ : List (List Stretch)) → AllSound ls → Windows r n ls ls′ → Tests containsNone containsNone ls ls′
+  none-alike : Tests r n containsNone containsNone
   none-alike [] [] d w s e h = refl
   none-alike [] (b′ ∷ ls′) d w s e h = absurd w
   none-alike (b ∷ ls) [] d w s e h = absurd w
@@ -187,33 +186,38 @@ module _ (r n : ℕ) where
       (λ k. cases (containsNone (b ∷ ls) (st (r + s) (r + e))) (λ c. c ≡ false)
       (λ j. let z : _≡_ {A = ℕ} 0 1 = cc (none-in-test b′ (st s e) (none-down b b′ (w .0) s e h (none-in b (st (r + s) (r + e)) j))) in absurd (omega arith)) (λ j. refl))
 
-  kept-down : (f f′ : List (List Stretch) → Stretch → Bool) (ls ls′ : List (List Stretch)) → ((bs bs′ : List (List Stretch)) → AllSound bs → Windows r n bs bs′ → Tests f f′ bs bs′)
+  kept-down : (f f′ : List (List Stretch) → Stretch → Bool) (ls ls′ : List (List Stretch)) → Tests r n f f′
       → AllSound ls → Windows r n ls ls′ → (s e : ℕ) → e < n → Kept f ls (r + s) (r + e) → Kept f′ ls′ s e
   kept-down f f′ [] ls′ t d w s e h c = absurd c
   kept-down f f′ (a ∷ ls) [] t d w s e h c = absurd w
   kept-down f f′ (a ∷ ls) (a′ ∷ ls′) t d w s e h c = (w .0 s e h .0 (c .0), sym (t ls ls′ (d .1) (w .1) s e h) ∙ c .1)
 
-  kept-up : (f f′ : List (List Stretch) → Stretch → Bool) (ls ls′ : List (List Stretch)) → ((bs bs′ : List (List Stretch)) → AllSound bs → Windows r n bs bs′ → Tests f f′ bs bs′)
+  kept-up : (f f′ : List (List Stretch) → Stretch → Bool) (ls ls′ : List (List Stretch)) → Tests r n f f′
       → AllSound ls → Windows r n ls ls′ → (s e : ℕ) → e < n → Kept f′ ls′ s e → Kept f ls (r + s) (r + e)
   kept-up f f′ ls [] t d w s e h c = absurd c
   kept-up f f′ [] (a′ ∷ ls′) t d w s e h c = absurd w
   kept-up f f′ (a ∷ ls) (a′ ∷ ls′) t d w s e h c = (w .0 s e h .1 (c .0), t ls ls′ (d .1) (w .1) s e h ∙ c .1)
+
+  pub less-alike : Alike r n Less Less
+  less-alike = keep-alike none-alike
+
+  -- a measure that measures alike inside the window
+  pub max-alike : (m m′ : Stretch → ℕ) (k : ℕ) → ((s e : ℕ) → e < n → m (st (r + s) (r + e)) ≡ m′ (st s e)) → Alike r n (Max m k) (Max m′ k)
+  max-alike m m′ k g = keep-alike (λ ls ls′ d w s e h. ap (λ (x : ℕ). leb x k) (g s e h))
 
   pub cand-down : {o o′ : Op} → Alike r n o o′ → (ls ls′ : List (List Stretch)) → AllSound ls → Windows r n ls ls′ → (s e : ℕ) → e < n → Cand o ls (r + s) (r + e) → Cand o′ ls′ s e
   cand-down or-alike ls ls′ d w s e h c = any-down ls ls′ w s e h c
   cand-down and-alike ls ls′ d w s e h c = span-down anyhow steady-anyhow ls ls′ d w s e h c
   cand-down row-alike ls ls′ d w s e h c = span-down adjoins steady-adjoins ls ls′ d w s e h c
   cand-down then-alike ls ls′ d w s e h c = span-down follows steady-follows ls ls′ d w s e h c
-  cand-down less-alike ls ls′ d w s e h c = kept-down containsNone containsNone ls ls′ none-alike d w s e h c
-  cand-down (max-alike {m} {m′} {k} g) ls ls′ d w s e h c = kept-down (atMost m k) (atMost m′ k) ls ls′ (λ bs bs′ b v s e h. ap (λ (x : ℕ). leb x k) (g s e h)) d w s e h c
+  cand-down (keep-alike {f} {f′} g) ls ls′ d w s e h c = kept-down f f′ ls ls′ g d w s e h c
 
   pub cand-up : {o o′ : Op} → Alike r n o o′ → (ls ls′ : List (List Stretch)) → AllSound ls → Windows r n ls ls′ → (s e : ℕ) → e < n → Cand o′ ls′ s e → Cand o ls (r + s) (r + e)
   cand-up or-alike ls ls′ d w s e h c = any-up ls ls′ w s e h c
   cand-up and-alike ls ls′ d w s e h c = span-up anyhow steady-anyhow ls ls′ w s e h c
   cand-up row-alike ls ls′ d w s e h c = span-up adjoins steady-adjoins ls ls′ w s e h c
   cand-up then-alike ls ls′ d w s e h c = span-up follows steady-follows ls ls′ w s e h c
-  cand-up less-alike ls ls′ d w s e h c = kept-up containsNone containsNone ls ls′ none-alike d w s e h c
-  cand-up (max-alike {m} {m′} {k} g) ls ls′ d w s e h c = kept-up (atMost m k) (atMost m′ k) ls ls′ (λ bs bs′ b v s e h. ap (λ (x : ℕ). leb x k) (g s e h)) d w s e h c
+  cand-up (keep-alike {f} {f′} g) ls ls′ d w s e h c = kept-up f f′ ls ls′ g d w s e h c
 
   least-down : (o o′ : Op) → Alike r n o o′ → (ls ls′ : List (List Stretch)) → AllSound ls → Windows r n ls ls′ → (s e : ℕ) → e < n → Least o ls (r + s) (r + e) → Least o′ ls′ s e
   least-down o o′ y ls ls′ d w s e h f s′ e′ c p q =

@@ -1,6 +1,6 @@
 -- Stretches of lines, rising lists of them, and what the six operators answer: document 001 section 3, and the paper's "What the operators mean".
 -- Assumes nothing.
-use Prim.Native.Nat.{ℕ, suc, _-_, _<_, min, max}
+use Prim.Native.Nat.{ℕ, suc, _-_, _≤_, _<_, min, max}
 use mathlib.Core.Path.{_≡_}
 use mathlib.Core.Logic.{_⊎_}
 use mathlib.Core.Bool.{Bool, true, not, cond, _&&_, _||_}
@@ -27,6 +27,12 @@ Above x xs = (s e : ℕ) → In s e xs → (x .start < s) × (x .end < e)
 abbrev pub Rising : List Stretch → Type 0
 Rising [] = Unit {0}
 Rising (x ∷ xs) = Above x xs × Rising xs
+
+-- a list that rises, has no start above its end, and ends below line n
+pub record Fine (n : ℕ) (l : List Stretch) : Type 0 where
+  pub rising : Rising l
+  pub sound : (s e : ℕ) → In s e l → s ≤ e
+  pub below : (s e : ℕ) → In s e l → e < n
 
 -- x lies inside y
 abbrev pub inside : Stretch → Stretch → Bool
@@ -117,6 +123,16 @@ abbrev pub marks : ℕ → List Bool → List Stretch
 marks p [] = []
 marks p (b ∷ bs) = cond b (st p p ∷ marks (suc p) bs) (marks (suc p) bs)
 
+-- the lines that either has, and those that any has
+abbrev pub either : List Bool → List Bool → List Bool
+either [] ys = ys
+either (x ∷ xs) [] = x ∷ xs
+either (x ∷ xs) (y ∷ ys) = (x || y) ∷ either xs ys
+
+abbrev pub anyOf : List (List Bool) → List Bool
+anyOf [] = []
+anyOf (b ∷ bs) = either b (anyOf bs)
+
 -- the first of the lists
 abbrev pub firstList : List (List Stretch) → List Stretch
 firstList [] = []
@@ -139,10 +155,17 @@ atMost m k ls x = leb (m x) k
 abbrev pub lengthOf : Stretch → ℕ
 lengthOf x = suc (x .end) - x .start
 
--- the operators; max has its measure beside its bound
+-- the operators; a filter has its test, which may look at the other operands
 pub data Op : Type 0 where
-  Or And Row Then Less : Op
-  Max : (Stretch → ℕ) → ℕ → Op
+  Or And Row Then : Op
+  Keep : (List (List Stretch) → Stretch → Bool) → Op
+
+-- less; max has its measure beside its bound
+abbrev pub Less : Op
+Less = Keep containsNone
+
+abbrev pub Max : (Stretch → ℕ) → ℕ → Op
+Max m k = Keep (atMost m k)
 
 -- what an operator answers, given its operands' lists
 abbrev pub answers : Op → List (List Stretch) → List Stretch
@@ -150,5 +173,4 @@ answers Or ls = minimal (together ls)
 answers And ls = minimal (spans (linked anyhow) (tuples ls))
 answers Row ls = arrange (spans (linked adjoins) (tuples ls))
 answers Then ls = minimal (spans (linked follows) (tuples ls))
-answers Less ls = keepFirst containsNone ls
-answers (Max m k) ls = keepFirst (atMost m k) ls
+answers (Keep f) ls = keepFirst f ls

@@ -4,27 +4,6 @@ use borrow.Author.Needs.{needs}
 use Rattle.find.proofs.print.Statement.{statement}
 use Rattle.find.proofs.print.Tie as tie
 
-paper-requires : tie.Need-paper-requires
-paper-requires c κs = search needs
-
-first-requires : tie.Need-first-requires
-first-requires c κs = search needs
-
-first-requires-2 : tie.Need-first-requires-2
-first-requires-2 c κs = search needs
-
-slice-aggregate-print-sheet : tie.Need-slice-aggregate-print-sheet
-slice-aggregate-print-sheet c = search needs
-
-print-sheet-requires : tie.Need-print-sheet-requires
-print-sheet-requires c κs = search needs
-
-slice-aggregate-first : tie.Need-slice-aggregate-first
-slice-aggregate-first c = search needs
-
-first-requires-3 : tie.Need-first-requires-3
-first-requires-3 c κs = search needs
-
 put-requires : tie.Need-put-requires
 put-requires c κs =
     let s = c .before .before .before .before .before .before .before .before .before .before in
@@ -35,19 +14,7 @@ put-requires c κs =
     held-prints (s .args .t) (s .args .pattern .now) (s .args .log .now) (a .result .now) (b .result .now) (o .result) _ (c .first3 .result .now) (w .result) (s .pre) (a .ensures) (b .ensures)
     (o .ensures) (w .ensures) (c .first3 .ensures)
 
-returns : tie.Need-returns
-returns c = search needs
-
 pub print-spec : {M : Type 1} → statement M
 print-spec =
     tie.close
-    (tie.spec
-    paper-requires
-    first-requires
-    first-requires-2
-    slice-aggregate-print-sheet
-    print-sheet-requires
-    slice-aggregate-first
-    first-requires-3
-    put-requires
-    returns)
+    (tie.spec (λ c κs. search needs) (λ c κs. search needs) (λ c κs. search needs) (λ c. search needs) (λ c κs. search needs) (λ c. search needs) (λ c κs. search needs) put-requires (λ c. search needs))

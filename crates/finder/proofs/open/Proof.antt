@@ -1,14 +1,15 @@
--- `finder::open` meets its contract: one law, from what reading both gives. Assumes nothing.
-use Rattle.finder.proofs.Calls.{open-gives}
+-- `finder::open` meets its contract. Assumes nothing.
+use mathlib.Core.Path.{ap}
+use lib.Dec.{eqb}
+use Rattle.finder.specs.declared.Opened.{Opened}
+use Rattle.finder.specs.declared.Readied.{Readied}
+use Rattle.finder.specs.Promises.{fresh}
 use borrow.Author.Needs.{needs}
 use Rattle.finder.proofs.open.Statement.{statement}
 use Rattle.finder.proofs.open.Tie as tie
 
-read-both-requires : tie.Need-read-both-requires
-read-both-requires c κs = search needs
-
 returns : tie.Need-returns
-returns c = open-gives (c .before .before .before .before .before .args .text .now) (c .before .before .before .before .before .args .log .now) (c .before .before .read-both .result) (c .before .before .read-both .ensures)
+returns c = ap {B = Opened} (λ (r : Readied). record { number = r .number; place = r .place; finder = fresh (eqb (r .number) 0) (r .rows) }) (c .before .before .read-both .ensures)
 
 pub open-spec : {M : Type 1} → statement M
-open-spec = tie.close (tie.spec read-both-requires returns)
+open-spec = tie.close (tie.spec (λ c κs. search needs) returns)

@@ -6,17 +6,11 @@ use borrow.Author.Needs.{needs}
 use Rattle.finder_c.proofs.finder_fill.Statement.{statement}
 use Rattle.finder_c.proofs.finder_fill.Tie as tie
 
-fill-requires : tie.Need-fill-requires
-fill-requires c κs = search needs
-
 packed-requires : tie.Need-packed-requires
-packed-requires c κs = filling-small (c .before .before .before .before .before .before .before .args .pattern .now) (c .before .before .before .before .before .before .before .args .log .now) (c .before .before .before .before .before .before .before .args .from) (c .before .before .before .before .before .before .before .args .cells .now) (c .before .before .fill .result) (c .before .before .fill .ensures .result)
-
-same-length : tie.Need-same-length
-same-length c = search needs
+packed-requires c κs = filling-small (c .before .before .before .before .before .before .before .args .pattern .now) (c .before .before .before .before .before .before .before .args .log .now) (c .before .before .before .before .before .before .before .args .from) (c .before .before .before .before .before .before .before .args .cells .now) (c .before .before .fill .result) (c .before .before .fill .ensures .0)
 
 returns : tie.Need-returns
-returns c = (c .packed .ensures ∙ ap packedFill (c .before .before .before .fill .ensures .result), c .before .before .before .fill .ensures .memory)
+returns c = (c .packed .ensures ∙ ap packedFill (c .before .before .before .fill .ensures .0), c .before .before .before .fill .ensures .1)
 
 pub finder-fill-spec : {M : Type 1} → statement M
-finder-fill-spec = tie.close (tie.spec fill-requires packed-requires same-length returns)
+finder-fill-spec = tie.close (tie.spec (λ c κs. search needs) packed-requires (λ c. search needs) returns)

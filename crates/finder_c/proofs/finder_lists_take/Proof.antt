@@ -6,18 +6,12 @@ use borrow.Author.Needs.{needs}
 use Rattle.finder_c.proofs.finder_lists_take.Statement.{statement}
 use Rattle.finder_c.proofs.finder_lists_take.Tie as tie
 
-take-requires : tie.Need-take-requires
-take-requires c κs = search needs
-
 packed-taken-requires : tie.Need-packed-taken-requires
 packed-taken-requires c κs = taking-small (c .before .before .before .before .before .before .before .args .op) (c .before .before .before .before .before .before .before .args .items .now) (c .before .before .before .before .before .before .before .args .ends .now) (c .before .before .before .before .before .before .before .args .counts .now) (c .before .before .before .before .before .before .before .args .number) (c .before .before .take .result) (c .before .before .take .ensures .0)
-
-same-length : tie.Need-same-length
-same-length c = search needs
 
 returns : tie.Need-returns
 returns c = (c .packed-taken .ensures ∙ ap packedTaken (c .before .before .before .take .ensures .0), c .before .before .before .take .ensures .1)
 
 pub finder-lists-take-spec : {M : Type 1} → statement M
 finder-lists-take-spec =
-    tie.close (tie.spec take-requires packed-taken-requires same-length returns)
+    tie.close (tie.spec (λ c κs. search needs) packed-taken-requires (λ c. search needs) returns)

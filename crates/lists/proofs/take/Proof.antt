@@ -5,12 +5,6 @@ use Rattle.lists.proofs.Accepting.{take-refused, take-kept, takes, take
 use Rattle.lists.proofs.take.Statement.{statement}
 use Rattle.lists.proofs.take.Tie as tie
 
-taking-refusal-requires : tie.Need-taking-refusal-requires
-taking-refusal-requires c κs = search needs
-
-same-length : tie.Need-same-length
-same-length c = search needs
-
 returns : tie.Need-returns
 returns c = (take-refused (c .before .before .before .before .before .before .args .op) (now (c .before .before .before .before .before .before .args .items)) (now (c .before .before .before .before .before .before .args .ends)) (now (c .before .before .before .before .before .before .args .counts)) (c .before .before .before .before .before .before .args .number) (c .before .taking-refusal .result) (c .before .taking-refusal .ensures) (c .if1 .taken), take-kept (c .before .before .before .before .before .before .args .op) (now (c .before .before .before .before .before .before .args .items)) (now (c .before .before .before .before .before .before .args .ends)) (now (c .before .before .before .before .before .before .args .counts)) (c .before .before .before .before .before .before .args .number) (c .before .taking-refusal .result) (c .before .taking-refusal .ensures) (c .if1 .taken))
 
@@ -32,12 +26,4 @@ returns-3 c = (take-given (c .before .before .before .before .before .before .be
 pub take-spec : {M : Type 1} → statement M
 take-spec =
     tie.close
-    (tie.spec
-    taking-refusal-requires
-    same-length
-    returns
-    run-requires
-    same-length-2
-    returns-2
-    same-length-3
-    returns-3)
+    (tie.spec (λ c κs. search needs) (λ c. search needs) returns run-requires same-length-2 returns-2 same-length-3 returns-3)

@@ -23,9 +23,6 @@ slice-write-out c = omega (arith, length-field (c .before .before .before .befor
 add-result : tie.Need-add-result
 add-result c = record { fits = omega (arith, length-field (c .before .before .before .before .before .args .n) (c .before .before .before .before .before .args .mark), ap length (c .before .before .put-number .ensures .1) ∙ length-sets (c .before .before .before .before .before .args .out .now) (c .before .before .before .before .before .args .at) (decimal (c .before .before .before .before .before .args .n))) }
 
-same-length : tie.Need-same-length
-same-length c = search needs
-
 returns : tie.Need-returns
 unfolding field
 returns c =
@@ -37,4 +34,4 @@ returns c =
 
 pub put-field-spec : {M : Type 1} → statement M
 put-field-spec =
-    tie.close (tie.spec put-number-requires slice-write-out add-result same-length returns)
+    tie.close (tie.spec put-number-requires slice-write-out add-result (λ c. search needs) returns)

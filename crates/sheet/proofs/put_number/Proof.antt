@@ -18,26 +18,11 @@ Inv-loop out₀ at n end m₀ i₀ out m i =
 abbrev μ-loop : tie.MeasureT-loop
 μ-loop out₀ at n end m₀ i₀ out m i = m
 
-digits-requires : tie.Need-digits-requires Inv-loop μ-loop
-digits-requires c κs = search needs
-
-add-end : tie.Need-add-end Inv-loop μ-loop
-add-end c = search needs
-
-loop-holds : tie.Need-loop-holds Inv-loop μ-loop
-loop-holds c = search needs
-
 sub-i : tie.Need-sub-i Inv-loop μ-loop
 sub-i c = omega (arith, length-last (c .before .loop .m) (c .loop-test .taken))
 
-digit-requires : tie.Need-digit-requires Inv-loop μ-loop
-digit-requires c κs = search needs
-
 slice-write-out : tie.Need-slice-write-out Inv-loop μ-loop
 slice-write-out c = omega (arith, length-last (c .before .before .loop .m) (c .before .loop-test .taken))
-
-loop-less : tie.Need-loop-less Inv-loop μ-loop
-loop-less c = search needs
 
 loop-again : tie.Need-loop-again Inv-loop μ-loop
 loop-again c =
@@ -51,14 +36,8 @@ loop-again c =
           ∙ (digit-written (l .out) (a .at) (l .m) (l .i) h (l .inv .1) ∙ l .inv .3),
     )
 
-digit-requires-2 : tie.Need-digit-requires-2 Inv-loop μ-loop
-digit-requires-2 c κs = search needs
-
 slice-write-out-2 : tie.Need-slice-write-out-2 Inv-loop μ-loop
 slice-write-out-2 c = omega (arith, length-one (c .before .before .loop .m) (c .before .loop-test .left))
-
-same-length : tie.Need-same-length Inv-loop μ-loop
-same-length c = search needs
 
 returns : tie.Need-returns Inv-loop μ-loop
 returns c =
@@ -71,18 +50,4 @@ returns c =
 pub put-number-spec : {M : Type 1} → statement M
 put-number-spec =
     tie.close
-    (tie.spec
-    Inv-loop
-    μ-loop
-    digits-requires
-    add-end
-    loop-holds
-    sub-i
-    digit-requires
-    slice-write-out
-    loop-less
-    loop-again
-    digit-requires-2
-    slice-write-out-2
-    same-length
-    returns)
+    (tie.spec Inv-loop μ-loop (λ c κs. search needs) (λ c. search needs) (λ c. search needs) sub-i (λ c κs. search needs) slice-write-out (λ c. search needs) loop-again (λ c κs. search needs) slice-write-out-2 (λ c. search needs) returns)

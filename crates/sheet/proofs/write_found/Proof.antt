@@ -6,12 +6,6 @@ use borrow.Author.Needs.{needs}
 use Rattle.sheet.proofs.write_found.Statement.{statement}
 use Rattle.sheet.proofs.write_found.Tie as tie
 
-least-requires : tie.Need-least-requires
-least-requires c κs = search needs
-
-found-fits-requires : tie.Need-found-fits-requires
-found-fits-requires c κs = search needs
-
 returns : tie.Need-returns
 returns c =
     let a = c .before .before .before .before .before .args in
@@ -59,9 +53,6 @@ put-rows-requires c κs =
     let r = room-found (a .lines) (a .damaged) (m .result) (a .cells .now) (a .out .now) (f .result) (omega arith) (f .ensures) (c .before .before .before .before .before .before .before .before .before .before .before .before .before .before .before .before .before .if1 .left) in
     omega (arith, r)
 
-same-length : tie.Need-same-length
-same-length c = search needs
-
 returns-2 : tie.Need-returns-2
 returns-2 c =
     let a = c .before .before .before .before .before .before .before .before .before .before .before .before .before .before .before .before .before .before .before .before .before .before .before .before .before .args in
@@ -79,14 +70,4 @@ returns-2 c =
 pub write-found-spec : {M : Type 1} → statement M
 write-found-spec =
     tie.close
-    (tie.spec
-    least-requires
-    found-fits-requires
-    returns
-    put-letter-requires
-    put-field-requires
-    put-field-requires-2
-    put-field-requires-3
-    put-rows-requires
-    same-length
-    returns-2)
+    (tie.spec (λ c κs. search needs) (λ c κs. search needs) returns put-letter-requires put-field-requires put-field-requires-2 put-field-requires-3 put-rows-requires (λ c. search needs) returns-2)

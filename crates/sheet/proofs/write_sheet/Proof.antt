@@ -9,26 +9,11 @@ use borrow.Author.Needs.{needs}
 use Rattle.sheet.proofs.write_sheet.Statement.{statement}
 use Rattle.sheet.proofs.write_sheet.Tie as tie
 
-write-refused-requires : tie.Need-write-refused-requires
-write-refused-requires c κs = search needs
-
-same-length : tie.Need-same-length
-same-length c = search needs
-
 returns : tie.Need-returns
 returns c =
     let a = c .before .before .before .before .before .before .before .before .before .args in
     let w = c .before .before .write-refused in
     subst (λ (s : List ℕ). Lays s (a .out .now) (w .result) (w .last .1 .1 .0)) (sheet-refused (a .f) (a .log .now) (a .cells .now) (c .before .before .before .before .if1 .taken)) (w .ensures)
-
-count-requires : tie.Need-count-requires
-count-requires c κs = search needs
-
-write-found-requires : tie.Need-write-found-requires
-write-found-requires c κs = search needs
-
-same-length-2 : tie.Need-same-length-2
-same-length-2 c = search needs
 
 returns-2 : tie.Need-returns-2
 returns-2 c =
@@ -40,11 +25,4 @@ returns-2 c =
 pub write-sheet-spec : {M : Type 1} → statement M
 write-sheet-spec =
     tie.close
-    (tie.spec
-    write-refused-requires
-    same-length
-    returns
-    count-requires
-    write-found-requires
-    same-length-2
-    returns-2)
+    (tie.spec (λ c κs. search needs) (λ c. search needs) returns (λ c κs. search needs) (λ c κs. search needs) (λ c. search needs) returns-2)

@@ -6,9 +6,6 @@ use Rattle.lists.proofs.Tops.{movable, moved-top, moved-none}
 use Rattle.lists.proofs.queue.advance.Statement.{statement}
 use Rattle.lists.proofs.queue.advance.Tie as tie
 
-top-of-requires : tie.Need-top-of-requires
-top-of-requires c κs = search needs
-
 mul-counts : tie.Need-mul-counts
 mul-counts c = omega (arith, movable (c .before .before .before .before .before .before .before .args .by-end) (now (c .before .before .before .before .before .before .before .args .items)) (now (c .before .before .before .before .before .before .before .args .ends)) (now (c .before .before .before .before .before .before .before .args .counts)) (c .before .before .before .before .before .before .before .pre) (c .before .before .top-of .result) (c .before .before .top-of .ensures) (c .if1 .taken) .here, movable (c .before .before .before .before .before .before .before .args .by-end) (now (c .before .before .before .before .before .before .before .args .items)) (now (c .before .before .before .before .before .before .before .args .ends)) (now (c .before .before .before .before .before .before .before .args .counts)) (c .before .before .before .before .before .before .before .pre) (c .before .before .top-of .result) (c .before .before .top-of .ensures) (c .if1 .taken) .small, c .before .before .before .before .before .before .before .pre .room)
 
@@ -24,14 +21,8 @@ mul-counts-2 c = omega (arith, movable (c .before .before .before .before .befor
 slice-write-counts : tie.Need-slice-write-counts
 slice-write-counts c = omega (arith, movable (c .before .before .before .before .before .before .before .before .args .by-end) (now (c .before .before .before .before .before .before .before .before .args .items)) (now (c .before .before .before .before .before .before .before .before .args .ends)) (now (c .before .before .before .before .before .before .before .before .args .counts)) (c .before .before .before .before .before .before .before .before .pre) (c .before .before .before .top-of .result) (c .before .before .before .top-of .ensures) (c .before .if1 .taken) .here, movable (c .before .before .before .before .before .before .before .before .args .by-end) (now (c .before .before .before .before .before .before .before .before .args .items)) (now (c .before .before .before .before .before .before .before .before .args .ends)) (now (c .before .before .before .before .before .before .before .before .args .counts)) (c .before .before .before .before .before .before .before .before .pre) (c .before .before .before .top-of .result) (c .before .before .before .top-of .ensures) (c .before .if1 .taken) .small, c .before .before .before .before .before .before .before .before .pre .room)
 
-same-length : tie.Need-same-length
-same-length c = search needs
-
 returns : tie.Need-returns
 returns c = moved-top (c .before .before .before .before .before .before .before .before .args .by-end) (now (c .before .before .before .before .before .before .before .before .args .items)) (now (c .before .before .before .before .before .before .before .before .args .ends)) (now (c .before .before .before .before .before .before .before .before .args .counts)) (c .before .before .before .before .before .before .before .before .pre) (c .before .before .before .top-of .result) (c .before .before .before .top-of .ensures) (c .before .if1 .taken)
-
-same-length-2 : tie.Need-same-length-2
-same-length-2 c = search needs
 
 returns-2 : tie.Need-returns-2
 returns-2 c = moved-none (c .before .before .before .before .before .before .before .args .by-end) (now (c .before .before .before .before .before .before .before .args .items)) (now (c .before .before .before .before .before .before .before .args .ends)) (now (c .before .before .before .before .before .before .before .args .counts)) (c .before .before .before .before .before .before .before .pre) (c .before .before .top-of .result) (c .before .before .top-of .ensures) (c .if1 .left)
@@ -39,14 +30,4 @@ returns-2 c = moved-none (c .before .before .before .before .before .before .bef
 pub advance-spec : {M : Type 1} → statement M
 advance-spec =
     tie.close
-    (tie.spec
-    top-of-requires
-    mul-counts
-    slice-read-counts
-    add-counts
-    mul-counts-2
-    slice-write-counts
-    same-length
-    returns
-    same-length-2
-    returns-2)
+    (tie.spec (λ c κs. search needs) mul-counts slice-read-counts add-counts mul-counts-2 slice-write-counts (λ c. search needs) returns (λ c. search needs) returns-2)

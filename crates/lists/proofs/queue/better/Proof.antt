@@ -5,9 +5,6 @@ use Rattle.lists.specs.Queue.{betterOf}
 use Rattle.lists.proofs.queue.better.Statement.{statement}
 use Rattle.lists.proofs.queue.better.Tie as tie
 
-goes-first-requires : tie.Need-goes-first-requires
-goes-first-requires c κs = search needs
-
 returns : tie.Need-returns
 unfolding betterOf
 returns c = simp (sym (c .before .goes-first .ensures) ∙ c .if1 .taken)
@@ -17,4 +14,4 @@ unfolding betterOf
 returns-2 c = simp (sym (c .before .goes-first .ensures) ∙ c .if1 .left)
 
 pub better-spec : {M : Type 1} → statement M
-better-spec = tie.close (tie.spec goes-first-requires returns returns-2)
+better-spec = tie.close (tie.spec (λ c κs. search needs) returns returns-2)

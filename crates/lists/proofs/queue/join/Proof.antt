@@ -7,23 +7,11 @@ use Rattle.stretches.specs.Front.{At}
 use Rattle.lists.proofs.queue.join.Statement.{statement}
 use Rattle.lists.proofs.queue.join.Tie as tie
 
-nothing-requires : tie.Need-nothing-requires
-nothing-requires c κs = search needs
-
 returns : tie.Need-returns
 returns c = simp (not-true (c .before .before .before .args .x .found) (c .before .if1 .taken)) (c .nothing .ensures)
 
-nothing-requires-2 : tie.Need-nothing-requires-2
-nothing-requires-2 c κs = search needs
-
 returns-2 : tie.Need-returns-2
 returns-2 c = simp (not-false (c .before .before .before .before .before .args .x .found) (c .before .before .before .if1 .left), not-true (c .before .before .before .before .before .args .y .found) (c .before .if2 .taken)) (c .nothing2 .ensures)
-
-least-requires : tie.Need-least-requires
-least-requires c κs = search needs
-
-most-requires : tie.Need-most-requires
-most-requires c κs = search needs
 
 returns-3 : tie.Need-returns-3
 returns-3 c = simp (not-false (c .before .before .before .before .before .before .args .x .found) (c .before .before .before .before .if1 .left), not-false (c .before .before .before .before .before .before .args .y .found) (c .before .before .if2 .left)) (ap₂ (λ s e. At (st s e)) (c .before .least .ensures) (c .most .ensures))
@@ -31,11 +19,4 @@ returns-3 c = simp (not-false (c .before .before .before .before .before .before
 pub join-spec : {M : Type 1} → statement M
 join-spec =
     tie.close
-    (tie.spec
-    nothing-requires
-    returns
-    nothing-requires-2
-    returns-2
-    least-requires
-    most-requires
-    returns-3)
+    (tie.spec (λ c κs. search needs) returns (λ c κs. search needs) returns-2 (λ c κs. search needs) (λ c κs. search needs) returns-3)

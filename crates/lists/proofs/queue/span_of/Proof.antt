@@ -17,14 +17,8 @@ Inv-loop items ends counts n i₀ s₀ i s = (i < length ends) × (frontOf s ≡
 abbrev μ-loop : tie.MeasureT-loop
 μ-loop items ends counts n i₀ s₀ i s = i
 
-nothing-requires : tie.Need-nothing-requires Inv-loop μ-loop
-nothing-requires c κs = search needs
-
 returns : tie.Need-returns Inv-loop μ-loop
 returns c = c .nothing .ensures ∙ span-empty (now (c .before .before .before .before .before .args .items)) (now (c .before .before .before .before .before .args .ends)) (now (c .before .before .before .before .before .args .counts)) (c .before .before .before .before .before .pre .room) (c .before .if1 .taken)
-
-sub-i : tie.Need-sub-i Inv-loop μ-loop
-sub-i c = search needs
 
 item-at-requires : tie.Need-item-at-requires Inv-loop μ-loop
 item-at-requires c κs = (c .before .before .before .before .pre, omega arith)
@@ -32,17 +26,8 @@ item-at-requires c κs = (c .before .before .before .before .pre, omega arith)
 loop-holds : tie.Need-loop-holds Inv-loop μ-loop
 loop-holds c = (omega arith, span-end (now (c .before .before .before .before .before .args .items)) (now (c .before .before .before .before .before .args .ends)) (now (c .before .before .before .before .before .args .counts)) (c .before .before .before .before .before .pre .room) (c .item-at .result) (omega arith) (c .item-at .ensures))
 
-sub-i-2 : tie.Need-sub-i-2 Inv-loop μ-loop
-sub-i-2 c = search needs
-
 item-at-requires-2 : tie.Need-item-at-requires-2 Inv-loop μ-loop
 item-at-requires-2 c κs = (c .before .before .before .before .before .before .before .pre, omega arith)
-
-join-requires : tie.Need-join-requires Inv-loop μ-loop
-join-requires c κs = search needs
-
-loop-less : tie.Need-loop-less Inv-loop μ-loop
-loop-less c = search needs
 
 loop-again : tie.Need-loop-again Inv-loop μ-loop
 loop-again c = (omega arith, span-back (now (c .before .before .before .before .before .before .before .before .before .args .items)) (now (c .before .before .before .before .before .before .before .before .before .args .ends)) (now (c .before .before .before .before .before .before .before .before .before .args .counts)) (c .before .before .before .before .before .before .before .before .before .pre .room) (c .before .before .before .loop .i) (c .before .item-at2 .result) (c .before .before .before .loop .s) (c .join .result) (c .before .before .loop-test .taken) (c .before .before .before .loop .inv .0) (c .before .item-at2 .ensures) (c .join .ensures) (c .before .before .before .loop .inv .1))
@@ -53,17 +38,4 @@ returns-2 c = let z : c .before .loop .i ≡ 0 = omega arith in c .before .loop 
 pub span-of-spec : {M : Type 1} → statement M
 span-of-spec =
     tie.close
-    (tie.spec
-    Inv-loop
-    μ-loop
-    nothing-requires
-    returns
-    sub-i
-    item-at-requires
-    loop-holds
-    sub-i-2
-    item-at-requires-2
-    join-requires
-    loop-less
-    loop-again
-    returns-2)
+    (tie.spec Inv-loop μ-loop (λ c κs. search needs) returns (λ c. search needs) item-at-requires loop-holds (λ c. search needs) item-at-requires-2 (λ c κs. search needs) (λ c. search needs) loop-again returns-2)

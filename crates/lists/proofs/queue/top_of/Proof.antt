@@ -16,23 +16,11 @@ Inv-loop by-end items ends counts i₀ t₀ i t = (i ≤ length ends) × Topped 
 abbrev μ-loop : tie.MeasureT-loop
 μ-loop by-end items ends counts i₀ t₀ i t = i
 
-nothing-requires : tie.Need-nothing-requires Inv-loop μ-loop
-nothing-requires c κs = search needs
-
 loop-holds : tie.Need-loop-holds Inv-loop μ-loop
 loop-holds c = (omega arith, top-end (now (c .before .before .before .before .args .items)) (now (c .before .before .before .before .args .ends)) (now (c .before .before .before .before .args .counts)) (c .before .before .before .before .pre .room) (c .before .before .before .before .args .by-end) (c .nothing .result) (c .nothing .ensures))
 
-sub-i : tie.Need-sub-i Inv-loop μ-loop
-sub-i c = search needs
-
 item-at-requires : tie.Need-item-at-requires Inv-loop μ-loop
 item-at-requires c κs = (c .before .before .before .before .before .before .pre, omega arith)
-
-better-requires : tie.Need-better-requires Inv-loop μ-loop
-better-requires c κs = search needs
-
-loop-less : tie.Need-loop-less Inv-loop μ-loop
-loop-less c = search needs
 
 loop-again : tie.Need-loop-again Inv-loop μ-loop
 loop-again c = (omega arith, top-back (now (c .before .before .before .before .before .before .before .before .args .items)) (now (c .before .before .before .before .before .before .before .before .args .ends)) (now (c .before .before .before .before .before .before .before .before .args .counts)) (c .before .before .before .before .before .before .before .before .pre .room) (c .before .before .before .before .before .before .before .before .args .by-end) (c .before .before .before .loop .i) (c .before .item-at .result) (c .before .before .before .loop .t) (c .better .result) (c .before .before .loop-test .taken) (c .before .before .before .loop .inv .0) (c .before .item-at .ensures) (c .better .ensures) (c .before .before .before .loop .inv .1))
@@ -43,14 +31,4 @@ returns c = let z : c .before .loop .i ≡ 0 = omega arith in subst (λ (i : ℕ
 pub top-of-spec : {M : Type 1} → statement M
 top-of-spec =
     tie.close
-    (tie.spec
-    Inv-loop
-    μ-loop
-    nothing-requires
-    loop-holds
-    sub-i
-    item-at-requires
-    better-requires
-    loop-less
-    loop-again
-    returns)
+    (tie.spec Inv-loop μ-loop (λ c κs. search needs) loop-holds (λ c. search needs) item-at-requires (λ c κs. search needs) (λ c. search needs) loop-again returns)

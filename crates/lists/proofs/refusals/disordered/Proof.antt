@@ -6,7 +6,7 @@ use mathlib.Core.Path.{_≡_, refl, sym, _∙_}
 use mathlib.Core.Bool.{false}
 use lib.ListN.{length, drop}
 use denote.Ref.{now}
-use Rattle.meaning.specs.Lent.{listsFrom}
+use Rattle.stretches.specs.Lent.{listsFrom}
 use Rattle.meaning.specs.Refusals.{miscutFrom, disordered}
 use Rattle.lists.proofs.Cutting.{right-at}
 use Rattle.lists.proofs.Ordering.{lists-wrong, lists-on, lists-over}
@@ -22,26 +22,11 @@ abbrev μ-loop : tie.MeasureT-loop
 loop-holds : tie.Need-loop-holds Inv-loop μ-loop
 loop-holds c = (omega arith, c .before .before .pre, refl)
 
-mul-wide : tie.Need-mul-wide Inv-loop μ-loop
-mul-wide c = search needs
-
-shared-slice-read-wide : tie.Need-shared-slice-read-wide Inv-loop μ-loop
-shared-slice-read-wide c = search needs
-
-wide-requires : tie.Need-wide-requires Inv-loop μ-loop
-wide-requires c κs = search needs
-
 list-disordered-requires : tie.Need-list-disordered-requires Inv-loop μ-loop
 list-disordered-requires c κs = right-at (now (c .before .before .before .before .before .before .args .ends)) (c .before .before .before .loop .lo) (c .before .before .before .loop .j) (length (now (c .before .before .before .before .before .before .args .items))) (c .wide .result) (c .before .before .loop-test .taken) (c .wide .ensures .0) (c .before .before .before .loop .inv .1) .inside
 
 returns : tie.Need-returns Inv-loop μ-loop
 returns c = sym (c .before .before .before .before .before .loop .inv .2 ∙ lists-wrong (now (c .before .before .before .before .before .before .before .before .args .items)) (now (c .before .before .before .before .before .before .before .before .args .ends)) (c .before .before .before .before .before .loop .lo) (c .before .before .before .before .before .loop .j) (c .before .before .wide .result) (c .before .before .before .before .loop-test .taken) (c .before .before .wide .ensures .0) (sym (c .before .list-disordered .ensures) ∙ c .if1 .taken))
-
-add-j : tie.Need-add-j Inv-loop μ-loop
-add-j c = search needs
-
-loop-less : tie.Need-loop-less Inv-loop μ-loop
-loop-less c = search needs
 
 loop-again : tie.Need-loop-again Inv-loop μ-loop
 loop-again c = (omega arith, right-at (now (c .before .before .before .before .before .before .before .before .args .ends)) (c .before .before .before .before .before .loop .lo) (c .before .before .before .before .before .loop .j) (length (now (c .before .before .before .before .before .before .before .before .args .items))) (c .before .before .wide .result) (c .before .before .before .before .loop-test .taken) (c .before .before .wide .ensures .0) (c .before .before .before .before .before .loop .inv .1) .rest, c .before .before .before .before .before .loop .inv .2 ∙ lists-on (now (c .before .before .before .before .before .before .before .before .args .items)) (now (c .before .before .before .before .before .before .before .before .args .ends)) (c .before .before .before .before .before .loop .lo) (c .before .before .before .before .before .loop .j) (c .before .before .wide .result) (c .before .before .before .before .loop-test .taken) (c .before .before .wide .ensures .0) (sym (c .before .list-disordered .ensures) ∙ c .if1 .left))
@@ -52,16 +37,4 @@ returns-2 c = sym (c .before .loop .inv .2 ∙ lists-over (now (c .before .befor
 pub disordered-spec : {M : Type 1} → statement M
 disordered-spec =
     tie.close
-    (tie.spec
-    Inv-loop
-    μ-loop
-    loop-holds
-    mul-wide
-    shared-slice-read-wide
-    wide-requires
-    list-disordered-requires
-    returns
-    add-j
-    loop-less
-    loop-again
-    returns-2)
+    (tie.spec Inv-loop μ-loop loop-holds (λ c. search needs) (λ c. search needs) (λ c κs. search needs) list-disordered-requires returns (λ c. search needs) (λ c. search needs) loop-again returns-2)

@@ -9,7 +9,7 @@ use denote.Ref.{now}
 use mathlib.Core.Logic.{inl, inr}
 use Rattle.lists.proofs.refusals.list_disordered.Statement.{statement}
 use Rattle.lists.proofs.refusals.list_disordered.Tie as tie
-use Rattle.meaning.specs.Lent.{part}
+use Rattle.stretches.specs.Lent.{part}
 
 abbrev Inv-loop : tie.InvT-loop
 Inv-loop items lo hi a₀ b₀ i₀ a b i = (hi ≤ length items) × (a ≤ 4294967296) × (b ≤ 4294967296) × (unrisen 0 0 (part items lo hi) ≡ unrisen a b (part items i hi))
@@ -17,35 +17,8 @@ Inv-loop items lo hi a₀ b₀ i₀ a b i = (hi ≤ length items) × (a ≤ 4294
 abbrev μ-loop : tie.MeasureT-loop
 μ-loop items lo hi a₀ b₀ i₀ a b i = hi - i
 
-loop-holds : tie.Need-loop-holds Inv-loop μ-loop
-loop-holds c = search needs
-
-sub-if1 : tie.Need-sub-if1 Inv-loop μ-loop
-sub-if1 c = search needs
-
 returns : tie.Need-returns Inv-loop μ-loop
 returns c = sym (list-unrisen (part (now (c .before .before .before .before .args .items)) (c .before .before .before .before .args .lo) (c .before .before .before .before .args .hi)) ∙ c .before .before .loop .inv .3 ∙ list-over (now (c .before .before .before .before .args .items)) (c .before .before .loop .i) (c .before .before .before .before .args .hi) (c .before .before .loop .a) (c .before .before .loop .b) (omega arith))
-
-mul-wide : tie.Need-mul-wide Inv-loop μ-loop
-mul-wide c = search needs
-
-shared-slice-read-wide : tie.Need-shared-slice-read-wide Inv-loop μ-loop
-shared-slice-read-wide c = search needs
-
-wide-requires : tie.Need-wide-requires Inv-loop μ-loop
-wide-requires c κs = search needs
-
-add-wide : tie.Need-add-wide Inv-loop μ-loop
-add-wide c = search needs
-
-mul-wide-2 : tie.Need-mul-wide-2 Inv-loop μ-loop
-mul-wide-2 c = search needs
-
-shared-slice-read-wide-2 : tie.Need-shared-slice-read-wide-2 Inv-loop μ-loop
-shared-slice-read-wide-2 c = search needs
-
-wide-requires-2 : tie.Need-wide-requires-2 Inv-loop μ-loop
-wide-requires-2 c κs = search needs
 
 returns-2 : tie.Need-returns-2 Inv-loop μ-loop
 returns-2 c = sym (list-unrisen (part (now (c .before .before .before .before .before .before .before .before .before .args .items)) (c .before .before .before .before .before .before .before .before .before .args .lo) (c .before .before .before .before .before .before .before .before .before .args .hi)) ∙ c .before .before .before .before .before .before .before .loop .inv .3 ∙ list-wrong (now (c .before .before .before .before .before .before .before .before .before .args .items)) (c .before .before .before .before .before .before .before .loop .i) (c .before .before .before .before .before .before .before .before .before .args .hi) (c .before .before .before .before .before .before .before .loop .a) (c .before .before .before .before .before .before .before .loop .b) (c .before .before .before .wide .result) (c .before .wide2 .result) (omega arith) (c .before .before .before .before .before .before .before .loop .inv .0) (c .before .before .before .wide .ensures .0) (c .before .wide2 .ensures .0) (inl (c .if2 .taken)))
@@ -59,18 +32,6 @@ returns-4 c = sym (list-unrisen (part (now (c .before .before .before .before .b
 returns-5 : tie.Need-returns-5 Inv-loop μ-loop
 returns-5 c = sym (list-unrisen (part (now (c .before .before .before .before .before .before .before .before .before .before .before .before .args .items)) (c .before .before .before .before .before .before .before .before .before .before .before .before .args .lo) (c .before .before .before .before .before .before .before .before .before .before .before .before .args .hi)) ∙ c .before .before .before .before .before .before .before .before .before .before .loop .inv .3 ∙ list-wrong (now (c .before .before .before .before .before .before .before .before .before .before .before .before .args .items)) (c .before .before .before .before .before .before .before .before .before .before .loop .i) (c .before .before .before .before .before .before .before .before .before .before .before .before .args .hi) (c .before .before .before .before .before .before .before .before .before .before .loop .a) (c .before .before .before .before .before .before .before .before .before .before .loop .b) (c .before .before .before .before .before .before .wide .result) (c .before .before .before .before .wide2 .result) (omega arith) (c .before .before .before .before .before .before .before .before .before .before .loop .inv .0) (c .before .before .before .before .before .before .wide .ensures .0) (c .before .before .before .before .wide2 .ensures .0) (inr (inr (inr (c .if5 .taken)))))
 
-add-a : tie.Need-add-a Inv-loop μ-loop
-add-a c = search needs
-
-add-b : tie.Need-add-b Inv-loop μ-loop
-add-b c = search needs
-
-add-i : tie.Need-add-i Inv-loop μ-loop
-add-i c = search needs
-
-loop-less : tie.Need-loop-less Inv-loop μ-loop
-loop-less c = search needs
-
 loop-again : tie.Need-loop-again Inv-loop μ-loop
 loop-again c = (c .before .before .before .before .before .before .before .before .before .before .loop .inv .0, omega arith, omega arith, c .before .before .before .before .before .before .before .before .before .before .loop .inv .3 ∙ list-on (now (c .before .before .before .before .before .before .before .before .before .before .before .before .args .items)) (c .before .before .before .before .before .before .before .before .before .before .loop .i) (c .before .before .before .before .before .before .before .before .before .before .before .before .args .hi) (c .before .before .before .before .before .before .before .before .before .before .loop .a) (c .before .before .before .before .before .before .before .before .before .before .loop .b) (c .before .before .before .before .before .before .wide .result) (c .before .before .before .before .wide2 .result) (omega arith) (c .before .before .before .before .before .before .before .before .before .before .loop .inv .0) (c .before .before .before .before .before .before .wide .ensures .0) (c .before .before .before .before .wide2 .ensures .0) (c .before .before .before .if2 .left) (c .before .before .if3 .left) (c .before .if4 .left) (c .if5 .left))
 
@@ -80,26 +41,4 @@ returns-6 c = sym (list-unrisen (part (now (c .before .before .before .args .ite
 pub list-disordered-spec : {M : Type 1} → statement M
 list-disordered-spec =
     tie.close
-    (tie.spec
-    Inv-loop
-    μ-loop
-    loop-holds
-    sub-if1
-    returns
-    mul-wide
-    shared-slice-read-wide
-    wide-requires
-    add-wide
-    mul-wide-2
-    shared-slice-read-wide-2
-    wide-requires-2
-    returns-2
-    returns-3
-    returns-4
-    returns-5
-    add-a
-    add-b
-    add-i
-    loop-less
-    loop-again
-    returns-6)
+    (tie.spec Inv-loop μ-loop (λ c. search needs) (λ c. search needs) returns (λ c. search needs) (λ c. search needs) (λ c κs. search needs) (λ c. search needs) (λ c. search needs) (λ c. search needs) (λ c κs. search needs) returns-2 returns-3 returns-4 returns-5 (λ c. search needs) (λ c. search needs) (λ c. search needs) (λ c. search needs) loop-again returns-6)

@@ -16,29 +16,11 @@ Inv-loop items ends at₀ i₀ at i = (i ≤ length ends) × (miscutFrom 0 ends 
 abbrev μ-loop : tie.MeasureT-loop
 μ-loop items ends at₀ i₀ at i = length ends - i
 
-loop-holds : tie.Need-loop-holds Inv-loop μ-loop
-loop-holds c = search needs
-
-mul-wide : tie.Need-mul-wide Inv-loop μ-loop
-mul-wide c = search needs
-
-shared-slice-read-wide : tie.Need-shared-slice-read-wide Inv-loop μ-loop
-shared-slice-read-wide c = search needs
-
-wide-requires : tie.Need-wide-requires Inv-loop μ-loop
-wide-requires c κs = search needs
-
 returns : tie.Need-returns Inv-loop μ-loop
 returns c = sym (c .before .before .before .before .loop .inv .1 ∙ cut-odd (now (c .before .before .before .before .before .before .before .args .ends)) (c .before .before .before .before .loop .at) (c .before .before .before .before .loop .i) (length (now (c .before .before .before .before .before .before .before .args .items))) (c .before .wide .result) (c .before .before .before .loop-test .taken) (c .before .wide .ensures .0) (c .if1 .taken))
 
 returns-2 : tie.Need-returns-2 Inv-loop μ-loop
 returns-2 c = sym (c .before .before .before .before .before .loop .inv .1 ∙ cut-back (now (c .before .before .before .before .before .before .before .before .args .ends)) (c .before .before .before .before .before .loop .at) (c .before .before .before .before .before .loop .i) (length (now (c .before .before .before .before .before .before .before .before .args .items))) (c .before .before .wide .result) (c .before .before .before .before .loop-test .taken) (c .before .before .wide .ensures .0) (c .if2 .taken))
-
-add-i : tie.Need-add-i Inv-loop μ-loop
-add-i c = search needs
-
-loop-less : tie.Need-loop-less Inv-loop μ-loop
-loop-less c = search needs
 
 loop-again : tie.Need-loop-again Inv-loop μ-loop
 loop-again c = (omega arith, c .before .before .before .before .before .loop .inv .1 ∙ cut-on (now (c .before .before .before .before .before .before .before .before .args .ends)) (c .before .before .before .before .before .loop .at) (c .before .before .before .before .before .loop .i) (length (now (c .before .before .before .before .before .before .before .before .args .items))) (c .before .before .wide .result) (c .before .before .before .before .loop-test .taken) (c .before .before .wide .ensures .0) (c .before .if1 .left) (c .if2 .left))
@@ -49,16 +31,4 @@ returns-3 c = sym (c .before .loop .inv .1 ∙ cut-over (now (c .before .before 
 pub miscut-spec : {M : Type 1} → statement M
 miscut-spec =
     tie.close
-    (tie.spec
-    Inv-loop
-    μ-loop
-    loop-holds
-    mul-wide
-    shared-slice-read-wide
-    wide-requires
-    returns
-    returns-2
-    add-i
-    loop-less
-    loop-again
-    returns-3)
+    (tie.spec Inv-loop μ-loop (λ c. search needs) (λ c. search needs) (λ c. search needs) (λ c κs. search needs) returns returns-2 (λ c. search needs) (λ c. search needs) loop-again returns-3)

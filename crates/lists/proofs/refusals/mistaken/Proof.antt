@@ -11,9 +11,6 @@ returns c = simp (lt-leb _ _ (c .if1 .taken))
 returns-2 : tie.Need-returns-2
 returns-2 c = simp (le-leb _ _ (c .before .if1 .left), lt-leb _ _ (c .if2 .taken))
 
-takes-lists-requires : tie.Need-takes-lists-requires
-takes-lists-requires c κs = search needs
-
 returns-3 : tie.Need-returns-3
 returns-3 c = simp (le-leb _ _ (c .before .before .before .if1 .left), le-leb _ _ (c .before .before .if2 .left), sym (c .before .takes-lists .ensures) ∙ not-true _ (c .if3 .taken))
 
@@ -21,4 +18,4 @@ returns-4 : tie.Need-returns-4
 returns-4 c = simp (le-leb _ _ (c .before .before .before .if1 .left), le-leb _ _ (c .before .before .if2 .left), sym (c .before .takes-lists .ensures) ∙ not-false _ (c .if3 .left))
 
 pub mistaken-spec : {M : Type 1} → statement M
-mistaken-spec = tie.close (tie.spec returns returns-2 takes-lists-requires returns-3 returns-4)
+mistaken-spec = tie.close (tie.spec returns returns-2 (λ c κs. search needs) returns-3 returns-4)

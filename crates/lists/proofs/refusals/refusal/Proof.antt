@@ -5,15 +5,9 @@ use Rattle.meaning.specs.Refusals.{listsRefusal}
 use Rattle.lists.proofs.refusals.refusal.Statement.{statement}
 use Rattle.lists.proofs.refusals.refusal.Tie as tie
 
-miscalled-requires : tie.Need-miscalled-requires
-miscalled-requires c κs = search needs
-
 returns : tie.Need-returns
 unfolding listsRefusal
 returns c = simp (sym (c .before .miscalled .ensures) ∙ c .if1 .taken)
-
-miscut-requires : tie.Need-miscut-requires
-miscut-requires c κs = search needs
 
 returns-2 : tie.Need-returns-2
 unfolding listsRefusal
@@ -33,11 +27,4 @@ returns-4 c = simp (sym (c .before .before .before .before .before .miscalled .e
 pub refusal-spec : {M : Type 1} → statement M
 refusal-spec =
     tie.close
-    (tie.spec
-    miscalled-requires
-    returns
-    miscut-requires
-    returns-2
-    disordered-requires
-    returns-3
-    returns-4)
+    (tie.spec (λ c κs. search needs) returns (λ c κs. search needs) returns-2 disordered-requires returns-3 returns-4)

@@ -5,15 +5,9 @@ use Rattle.meaning.specs.Refusals.{takingRefusal}
 use Rattle.lists.proofs.refusals.taking_refusal.Statement.{statement}
 use Rattle.lists.proofs.refusals.taking_refusal.Tie as tie
 
-mistaken-requires : tie.Need-mistaken-requires
-mistaken-requires c κs = search needs
-
 returns : tie.Need-returns
 unfolding takingRefusal
 returns c = simp (sym (c .before .mistaken .ensures) ∙ c .if1 .taken)
-
-miscut-requires : tie.Need-miscut-requires
-miscut-requires c κs = search needs
 
 returns-2 : tie.Need-returns-2
 unfolding takingRefusal
@@ -33,11 +27,4 @@ returns-4 c = simp (sym (c .before .before .before .before .before .mistaken .en
 pub taking-refusal-spec : {M : Type 1} → statement M
 taking-refusal-spec =
     tie.close
-    (tie.spec
-    mistaken-requires
-    returns
-    miscut-requires
-    returns-2
-    disordered-requires
-    returns-3
-    returns-4)
+    (tie.spec (λ c κs. search needs) returns (λ c κs. search needs) returns-2 disordered-requires returns-3 returns-4)

@@ -18,21 +18,6 @@ Inv-loop counts₀ n i₀ counts i = (i ≤ n) × (n ≤ length counts₀) × (c
 abbrev μ-loop : tie.MeasureT-loop
 μ-loop counts₀ n i₀ counts i = n - i
 
-loop-holds : tie.Need-loop-holds Inv-loop μ-loop
-loop-holds c = search needs
-
-mul-counts : tie.Need-mul-counts Inv-loop μ-loop
-mul-counts c = search needs
-
-slice-write-counts : tie.Need-slice-write-counts Inv-loop μ-loop
-slice-write-counts c = search needs
-
-add-i : tie.Need-add-i Inv-loop μ-loop
-add-i c = search needs
-
-loop-less : tie.Need-loop-less Inv-loop μ-loop
-loop-less c = search needs
-
 loop-again : tie.Need-loop-again Inv-loop μ-loop
 loop-again c = (omega arith, c .before .loop .inv .1, ap (λ l. set l (c .before .loop .i) 1) (c .before .loop .inv .2) ∙ fill-more (c .before .loop .i) 1 (now (c .before .before .args .counts)) (omega arith), length-set (c .before .loop .counts) (c .before .loop .i) 1 ∙ c .before .loop .inv .3)
 
@@ -45,14 +30,4 @@ returns c = begun-cells (c .before .before .args .n) (c .before .loop .i) (now (
 pub begin-spec : {M : Type 1} → statement M
 begin-spec =
     tie.close
-    (tie.spec
-    Inv-loop
-    μ-loop
-    loop-holds
-    mul-counts
-    slice-write-counts
-    add-i
-    loop-less
-    loop-again
-    same-length
-    returns)
+    (tie.spec Inv-loop μ-loop (λ c. search needs) (λ c. search needs) (λ c. search needs) (λ c. search needs) (λ c. search needs) loop-again same-length returns)

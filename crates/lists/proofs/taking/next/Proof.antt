@@ -37,13 +37,4 @@ returns-3 c = next-and (now (c .before .before .before .before .before .before .
 pub next-spec : {M : Type 1} → statement M
 next-spec =
     tie.close
-    (tie.spec
-    skip-requires
-    view-requires
-    same-length
-    returns
-    same-length-2
-    returns-2
-    shrink-requires
-    same-length-3
-    returns-3)
+    (tie.spec skip-requires view-requires same-length returns same-length-2 returns-2 shrink-requires same-length-3 returns-3)

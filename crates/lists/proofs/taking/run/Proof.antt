@@ -7,7 +7,7 @@ use denote.Ref.{now}
 use lib.ListN.{length, replicate}
 use borrow.Author.Tests.{not-true}
 use Rattle.stretches.specs.Taking.{taking}
-use Rattle.meaning.specs.Lent.{listsOf}
+use Rattle.stretches.specs.Lent.{listsOf}
 use Rattle.lists.specs.Queue.{opOf, Lent, Handed}
 use Rattle.lists.proofs.Turns.{lent-kept}
 use Rattle.lists.proofs.Runs.{run-first, run-turn, run-from, run-none}
@@ -22,9 +22,6 @@ abbrev μ-loop : tie.MeasureT-loop
 
 begin-requires : tie.Need-begin-requires Inv-loop μ-loop
 begin-requires c κs = c .before .before .before .before .pre .room
-
-nothing-requires : tie.Need-nothing-requires Inv-loop μ-loop
-nothing-requires c κs = search needs
 
 next-requires : tie.Need-next-requires Inv-loop μ-loop
 next-requires c κs = lent-kept (now (c .before .before .before .before .before .before .before .before .before .args .items)) (now (c .before .before .before .before .before .before .before .before .before .args .ends)) (now (c .before .before .before .before .before .before .before .before .before .args .counts)) (c .before .before .before .before .begin .last .0) (c .before .before .before .before .before .before .before .before .before .pre) (c .before .before .before .before .begin .ensures .wide)
@@ -41,12 +38,6 @@ returns c = run-from (c .before .before .before .before .before .before .before 
 next-requires-2 : tie.Need-next-requires-2 Inv-loop μ-loop
 next-requires-2 c κs = c .before .before .before .before .loop .inv .0
 
-add-p : tie.Need-add-p Inv-loop μ-loop
-add-p c = search needs
-
-loop-less : tie.Need-loop-less Inv-loop μ-loop
-loop-less c = search needs
-
 loop-again : tie.Need-loop-again Inv-loop μ-loop
 loop-again c = (lent-kept (now (c .before .before .before .before .before .before .before .before .before .before .before .before .before .before .before .before .before .before .before .before .args .items)) (now (c .before .before .before .before .before .before .before .before .before .before .before .before .before .before .before .before .before .before .before .before .args .ends)) (c .before .before .before .before .before .before .before .loop .counts) (c .before .before .next2 .last .1 .1 .1 .0) (c .before .before .before .before .before .before .before .loop .inv .0) (c .before .before .next2 .ensures .wide), omega arith, run-turn (c .before .before .before .before .before .before .before .before .before .before .before .before .before .before .before .before .before .before .before .before .args .by-end) (now (c .before .before .before .before .before .before .before .before .before .before .before .before .before .before .before .before .before .before .before .before .args .items)) (now (c .before .before .before .before .before .before .before .before .before .before .before .before .before .before .before .before .before .before .before .before .args .ends)) (c .before .before .before .before .before .before .before .loop .p) (c .before .before .before .before .before .before .before .before .before .before .next .last .1 .1 .1 .0) (c .before .before .before .before .before .before .before .loop .counts) (c .before .before .next2 .last .1 .1 .1 .0) (c .before .before .before .before .before .before .before .loop .c) (c .before .before .next2 .result) (c .before .before .before .before .before .before .before .loop .inv .2) (c .before .before .next2 .ensures))
 
@@ -59,18 +50,4 @@ returns-2 c = let z : c .before .loop .p ≡ c .before .before .before .before .
 pub run-spec : {M : Type 1} → statement M
 run-spec =
     tie.close
-    (tie.spec
-    Inv-loop
-    μ-loop
-    begin-requires
-    nothing-requires
-    next-requires
-    loop-holds
-    same-length
-    returns
-    next-requires-2
-    add-p
-    loop-less
-    loop-again
-    same-length-2
-    returns-2)
+    (tie.spec Inv-loop μ-loop begin-requires (λ c κs. search needs) next-requires loop-holds same-length returns next-requires-2 (λ c. search needs) (λ c. search needs) loop-again same-length-2 returns-2)

@@ -17,17 +17,11 @@ Inv-loop items ends counts₀ c₀ left₀ counts c left = Lent items ends count
 abbrev μ-loop : tie.MeasureT-loop
 μ-loop items ends counts₀ c₀ left₀ counts c left = left
 
-add-left : tie.Need-add-left Inv-loop μ-loop
-add-left c = search needs
-
 loop-holds : tie.Need-loop-holds Inv-loop μ-loop
 loop-holds c = (c .before .before .before .pre .0, shrink-start (now (c .before .before .before .args .items)) (now (c .before .before .before .args .ends)) (st (c .before .before .before .args .first .start) (c .before .before .before .args .first .end)) (now (c .before .before .before .args .counts)) (c .before .before .before .args .first) (c .before .before .before .pre .0 .cut) (c .before .before .before .pre .1) refl)
 
 top-of-requires : tie.Need-top-of-requires Inv-loop μ-loop
 top-of-requires c κs = c .before .before .loop .inv .0
-
-is-top-requires : tie.Need-is-top-requires Inv-loop μ-loop
-is-top-requires c κs = search needs
 
 same-length : tie.Need-same-length Inv-loop μ-loop
 same-length c = c .before .before .before .before .before .before .loop .inv .1 .wide
@@ -41,20 +35,11 @@ advance-requires c κs = c .before .before .before .before .before .before .befo
 span-of-requires : tie.Need-span-of-requires Inv-loop μ-loop
 span-of-requires c κs = lent-kept (now (c .before .before .before .before .before .before .before .before .before .before .before .before .before .before .before .args .items)) (now (c .before .before .before .before .before .before .before .before .before .before .before .before .before .before .before .args .ends)) (c .before .before .before .before .before .before .before .before .before .before .before .loop .counts) (c .before .before .before .advance .last .1 .1 .1 .0) (c .before .before .before .before .before .before .before .before .before .before .before .loop .inv .0) (c .before .before .before .advance .ensures .wide)
 
-contains-requires : tie.Need-contains-requires Inv-loop μ-loop
-contains-requires c κs = search needs
-
 same-length-2 : tie.Need-same-length-2 Inv-loop μ-loop
 same-length-2 c = c .before .before .before .before .before .before .advance .ensures .wide ∙ c .before .before .before .before .before .before .before .before .before .before .before .before .before .before .loop .inv .1 .wide
 
 returns-2 : tie.Need-returns-2 Inv-loop μ-loop
 returns-2 c = shrink-still (now (c .before .before .before .before .before .before .before .before .before .before .before .before .before .before .before .before .before .before .args .items)) (now (c .before .before .before .before .before .before .before .before .before .before .before .before .before .before .before .before .before .before .args .ends)) (st (c .before .before .before .before .before .before .before .before .before .before .before .before .before .before .before .before .before .before .args .first .start) (c .before .before .before .before .before .before .before .before .before .before .before .before .before .before .before .before .before .before .args .first .end)) (c .before .before .before .before .before .before .before .before .before .before .before .before .before .before .loop .left) (now (c .before .before .before .before .before .before .before .before .before .before .before .before .before .before .before .before .before .before .args .counts)) (c .before .before .before .before .before .before .before .before .before .before .before .before .before .before .loop .counts) (c .before .before .before .before .before .before .before .before .before .before .before .before .before .before .loop .c) (c .before .before .before .before .before .before .before .before .before .before .before .before .before .before .loop .inv .1) (c .before .before .before .before .before .before .advance .last .1 .1 .1 .0) (c .before .before .span-of .result) (c .before .before .before .before .before .before .before .before .before .before .before .before .before .loop-test .taken) (ap (λ g. isTop g (st (c .before .before .before .before .before .before .before .before .before .before .before .before .before .before .loop .c .start) (c .before .before .before .before .before .before .before .before .before .before .before .before .before .before .loop .c .end))) (sym (c .before .before .before .before .before .before .before .before .before .before .before .top-of .ensures .item)) ∙ (sym (c .before .before .before .before .before .before .before .before .before .is-top .ensures) ∙ c .before .before .before .before .before .before .before .before .if1 .left)) (c .before .before .before .before .before .before .advance .ensures) (c .before .before .span-of .ensures) (sym (c .before .contains .ensures) ∙ not-true (c .before .contains .result) (c .if2 .taken))
-
-sub-left : tie.Need-sub-left Inv-loop μ-loop
-sub-left c = search needs
-
-loop-less : tie.Need-loop-less Inv-loop μ-loop
-loop-less c = search needs
 
 loop-again : tie.Need-loop-again Inv-loop μ-loop
 loop-again c = (lent-kept (now (c .before .before .before .before .before .before .before .before .before .before .before .before .before .before .before .before .before .before .args .items)) (now (c .before .before .before .before .before .before .before .before .before .before .before .before .before .before .before .before .before .before .args .ends)) (c .before .before .before .before .before .before .before .before .before .before .before .before .before .before .loop .counts) (c .before .before .before .before .before .before .advance .last .1 .1 .1 .0) (c .before .before .before .before .before .before .before .before .before .before .before .before .before .before .loop .inv .0) (c .before .before .before .before .before .before .advance .ensures .wide), shrink-turn (now (c .before .before .before .before .before .before .before .before .before .before .before .before .before .before .before .before .before .before .args .items)) (now (c .before .before .before .before .before .before .before .before .before .before .before .before .before .before .before .before .before .before .args .ends)) (st (c .before .before .before .before .before .before .before .before .before .before .before .before .before .before .before .before .before .before .args .first .start) (c .before .before .before .before .before .before .before .before .before .before .before .before .before .before .before .before .before .before .args .first .end)) (c .before .before .before .before .before .before .before .before .before .before .before .before .before .before .loop .left) (now (c .before .before .before .before .before .before .before .before .before .before .before .before .before .before .before .before .before .before .args .counts)) (c .before .before .before .before .before .before .before .before .before .before .before .before .before .before .loop .counts) (c .before .before .before .before .before .before .before .before .before .before .before .before .before .before .loop .c) (c .before .before .before .before .before .before .before .before .before .before .before .before .before .before .loop .inv .1) (c .before .before .before .before .before .before .advance .last .1 .1 .1 .0) (c .before .before .span-of .result) (c .before .before .before .before .before .before .before .before .before .before .before .before .before .loop-test .taken) (ap (λ g. isTop g (st (c .before .before .before .before .before .before .before .before .before .before .before .before .before .before .loop .c .start) (c .before .before .before .before .before .before .before .before .before .before .before .before .before .before .loop .c .end))) (sym (c .before .before .before .before .before .before .before .before .before .before .before .top-of .ensures .item)) ∙ (sym (c .before .before .before .before .before .before .before .before .before .is-top .ensures) ∙ c .before .before .before .before .before .before .before .before .if1 .left)) (c .before .before .before .before .before .before .advance .ensures) (c .before .before .span-of .ensures) (sym (c .before .contains .ensures) ∙ not-false (c .before .contains .result) (c .if2 .left)))
@@ -68,22 +53,4 @@ returns-3 c = shrink-done (now (c .before .before .before .before .before .args 
 pub shrink-spec : {M : Type 1} → statement M
 shrink-spec =
     tie.close
-    (tie.spec
-    Inv-loop
-    μ-loop
-    add-left
-    loop-holds
-    top-of-requires
-    is-top-requires
-    same-length
-    returns
-    advance-requires
-    span-of-requires
-    contains-requires
-    same-length-2
-    returns-2
-    sub-left
-    loop-less
-    loop-again
-    same-length-3
-    returns-3)
+    (tie.spec Inv-loop μ-loop (λ c. search needs) loop-holds top-of-requires (λ c κs. search needs) same-length returns advance-requires span-of-requires (λ c κs. search needs) same-length-2 returns-2 (λ c. search needs) (λ c. search needs) loop-again same-length-3 returns-3)

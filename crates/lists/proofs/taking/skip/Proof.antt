@@ -16,17 +16,11 @@ Inv-loop by-end items ends counts₀ c left₀ counts left = Lent items ends cou
 abbrev μ-loop : tie.MeasureT-loop
 μ-loop by-end items ends counts₀ c left₀ counts left = left
 
-add-left : tie.Need-add-left Inv-loop μ-loop
-add-left c = search needs
-
 loop-holds : tie.Need-loop-holds Inv-loop μ-loop
 loop-holds c = (c .before .before .before .pre, skip-start (c .before .before .before .args .by-end) (now (c .before .before .before .args .items)) (now (c .before .before .before .args .ends)) (frontOf (c .before .before .before .args .c)) (now (c .before .before .before .args .counts)) (c .before .before .before .pre .cut))
 
 view-requires : tie.Need-view-requires Inv-loop μ-loop
 view-requires c κs = c .before .before .loop .inv .0
-
-contains-requires : tie.Need-contains-requires Inv-loop μ-loop
-contains-requires c κs = search needs
 
 same-length : tie.Need-same-length Inv-loop μ-loop
 same-length c = c .before .before .before .before .before .loop .inv .1 .wide
@@ -36,12 +30,6 @@ returns c = skip-stop (c .before .before .before .before .before .before .before
 
 advance-requires : tie.Need-advance-requires Inv-loop μ-loop
 advance-requires c κs = c .before .before .before .before .before .before .loop .inv .0
-
-sub-left : tie.Need-sub-left Inv-loop μ-loop
-sub-left c = search needs
-
-loop-less : tie.Need-loop-less Inv-loop μ-loop
-loop-less c = search needs
 
 loop-again : tie.Need-loop-again Inv-loop μ-loop
 loop-again c = (lent-kept (now (c .before .before .before .before .before .before .before .before .before .before .before .before .before .args .items)) (now (c .before .before .before .before .before .before .before .before .before .before .before .before .before .args .ends)) (c .before .before .before .before .before .before .before .before .before .loop .counts) (c .before .before .advance .last .1 .1 .1 .0) (c .before .before .before .before .before .before .before .before .before .loop .inv .0) (c .before .before .advance .ensures .wide), skip-turn (c .before .before .before .before .before .before .before .before .before .before .before .before .before .args .by-end) (now (c .before .before .before .before .before .before .before .before .before .before .before .before .before .args .items)) (now (c .before .before .before .before .before .before .before .before .before .before .before .before .before .args .ends)) (frontOf (c .before .before .before .before .before .before .before .before .before .before .before .before .before .args .c)) (c .before .before .before .before .before .before .before .before .before .loop .left) (now (c .before .before .before .before .before .before .before .before .before .before .before .before .before .args .counts)) (c .before .before .before .before .before .before .before .before .before .loop .counts) (c .before .before .before .before .before .before .before .before .before .loop .inv .1) (c .before .before .advance .last .1 .1 .1 .0) (c .before .before .before .before .before .before .before .before .loop-test .taken) (ap (λ g. contains g (frontOf (c .before .before .before .before .before .before .before .before .before .before .before .before .before .args .c))) (sym (c .before .before .before .before .before .before .view .ensures)) ∙ (sym (c .before .before .before .before .before .contains .ensures) ∙ not-false (c .before .before .before .before .before .contains .result) (c .before .before .before .before .if1 .left))) (c .before .before .advance .ensures))
@@ -55,18 +43,4 @@ returns-2 c = skip-done (c .before .before .before .before .before .args .by-end
 pub skip-spec : {M : Type 1} → statement M
 skip-spec =
     tie.close
-    (tie.spec
-    Inv-loop
-    μ-loop
-    add-left
-    loop-holds
-    view-requires
-    contains-requires
-    same-length
-    returns
-    advance-requires
-    sub-left
-    loop-less
-    loop-again
-    same-length-2
-    returns-2)
+    (tie.spec Inv-loop μ-loop (λ c. search needs) loop-holds view-requires (λ c κs. search needs) same-length returns advance-requires (λ c. search needs) (λ c. search needs) loop-again same-length-2 returns-2)

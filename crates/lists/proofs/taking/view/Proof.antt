@@ -3,17 +3,11 @@ use borrow.Author.Needs.{needs}
 use Rattle.lists.proofs.taking.view.Statement.{statement}
 use Rattle.lists.proofs.taking.view.Tie as tie
 
-top-of-requires : tie.Need-top-of-requires
-top-of-requires c κs = search needs
-
 returns : tie.Need-returns
 returns c = simp (c .before .before .if1 .taken) (c .before .top-of .ensures .item)
-
-span-of-requires : tie.Need-span-of-requires
-span-of-requires c κs = search needs
 
 returns-2 : tie.Need-returns-2
 returns-2 c = simp (c .before .if1 .left) (c .span-of .ensures)
 
 pub view-spec : {M : Type 1} → statement M
-view-spec = tie.close (tie.spec top-of-requires returns span-of-requires returns-2)
+view-spec = tie.close (tie.spec (λ c κs. search needs) returns (λ c κs. search needs) returns-2)

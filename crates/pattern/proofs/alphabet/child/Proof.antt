@@ -52,16 +52,4 @@ returns-2 c =
 pub child-spec : {M : Type 1} → statement M
 child-spec =
     tie.close
-    (tie.spec
-    Inv-loop
-    μ-loop
-    loop-holds
-    mul-if1
-    array-read-if1
-    mul-if2
-    array-read-if2
-    returns
-    add-j
-    loop-less
-    loop-again
-    returns-2)
+    (tie.spec Inv-loop μ-loop loop-holds mul-if1 array-read-if1 mul-if2 array-read-if2 returns add-j loop-less loop-again returns-2)

@@ -5,12 +5,6 @@ use borrow.Author.Needs.{needs}
 use Rattle.pattern.proofs.alphabet.live.Statement.{statement}
 use Rattle.pattern.proofs.alphabet.live.Tie as tie
 
-low-requires : tie.Need-low-requires
-low-requires c κs = search needs
-
-high-requires : tie.Need-high-requires
-high-requires c κs = search needs
-
 returns : tie.Need-returns
 returns c = simp (← c .before .high .ensures, lt-leb _ _ (c .if1 .taken))
 
@@ -20,13 +14,10 @@ returns-2 c = simp (← c .before .before .high .ensures, ← c .before .before 
 returns-3 : tie.Need-returns-3
 returns-3 c = simp (← c .before .before .before .high .ensures, ← c .before .before .before .before .low .ensures, le-leb _ _ (c .before .before .if1 .left), lt-leb _ _ (c .before .if2 .left), lt-leb _ _ (c .if3 .taken))
 
-mul-result : tie.Need-mul-result
-mul-result c = search needs
-
 returns-4 : tie.Need-returns-4
 returns-4 c = simp (← c .before .before .before .high .ensures, ← c .before .before .before .before .low .ensures, le-leb _ _ (c .before .before .if1 .left), lt-leb _ _ (c .before .if2 .left), le-leb _ _ (c .if3 .left))
 
 pub live-spec : {M : Type 1} → statement M
 live-spec =
     tie.close
-    (tie.spec low-requires high-requires returns returns-2 returns-3 mul-result returns-4)
+    (tie.spec (λ c κs. search needs) (λ c κs. search needs) returns returns-2 returns-3 (λ c. search needs) returns-4)

@@ -7,12 +7,6 @@ use borrow.Author.Needs.{needs}
 use Rattle.pattern.proofs.alphabet.word_at.Statement.{statement}
 use Rattle.pattern.proofs.alphabet.word_at.Tie as tie
 
-mul-result : tie.Need-mul-result
-mul-result c = search needs
-
-array-read-result : tie.Need-array-read-result
-array-read-result c = search needs
-
 returns : tie.Need-returns
 unfolding wordAt
 returns c = refl
@@ -22,4 +16,4 @@ unfolding wordAt
 returns-2 c = sym (getD-past ends (c .before .args .node) 0 (c .if1 .left))
 
 pub word-at-spec : {M : Type 1} → statement M
-word-at-spec = tie.close (tie.spec mul-result array-read-result returns returns-2)
+word-at-spec = tie.close (tie.spec (λ c. search needs) (λ c. search needs) returns returns-2)

@@ -7,12 +7,6 @@ use borrow.Author.Needs.{needs}
 use Rattle.pattern.proofs.automaton.advance.Statement.{statement}
 use Rattle.pattern.proofs.automaton.advance.Tie as tie
 
-enum-known-s : tie.Need-enum-known-s
-enum-known-s c = search needs
-
-word-at-requires : tie.Need-word-at-requires
-word-at-requires c κs = search needs
-
 word-end-requires : tie.Need-word-end-requires
 word-end-requires c κs =
     let g = c .before .before .before .s .given in
@@ -25,17 +19,11 @@ returns c =
     let a = c .before .before .before .before .before .before .args in
     c .word-end .ensures ∙ at-word (a .s) (a .b) (g .0 .0) (g .0 .1 .0) (g .1) _ (c .before .before .if1 .taken) (c .before .word-at .ensures)
 
-child-requires : tie.Need-child-requires
-child-requires c κs = search needs
-
 returns-2 : tie.Need-returns-2
 returns-2 c =
     let g = c .before .before .before .before .s .given in
     let a = c .before .before .before .before .before .before .args in
     at-no-letter (a .s) (a .b) (g .0 .0) (g .0 .1 .0) (g .1) _ (c .before .before .if1 .left) (c .before .child .ensures) (c .if2 .taken)
-
-enum-known-s-2 : tie.Need-enum-known-s-2
-enum-known-s-2 c = search needs
 
 returns-3 : tie.Need-returns-3
 returns-3 c =
@@ -48,12 +36,6 @@ returns-4 c =
     let g = c .before .before .before .s2 .given in
     let a = c .before .before .before .before .before .args in
     field-above (a .s) (a .b) (g .0 .0) (g .0 .1 .0) (g .0 .1 .1 .0) (g .0 .1 .1 .1 .0) (g .1) (c .if4 .taken)
-
-number-requires : tie.Need-number-requires
-number-requires c κs = search needs
-
-enum-known-s-3 : tie.Need-enum-known-s-3
-enum-known-s-3 c = search needs
 
 number-end-requires : tie.Need-number-end-requires
 number-end-requires c κs =
@@ -125,26 +107,4 @@ returns-11 c =
 pub advance-spec : {M : Type 1} → statement M
 advance-spec =
     tie.close
-    (tie.spec
-    enum-known-s
-    word-at-requires
-    word-end-requires
-    returns
-    child-requires
-    returns-2
-    enum-known-s-2
-    returns-3
-    returns-4
-    number-requires
-    enum-known-s-3
-    number-end-requires
-    returns-5
-    returns-6
-    returns-7
-    returns-8
-    mul-number
-    add-number
-    number-requires-2
-    returns-9
-    returns-10
-    returns-11)
+    (tie.spec (λ c. search needs) (λ c κs. search needs) word-end-requires returns (λ c κs. search needs) returns-2 (λ c. search needs) returns-3 returns-4 (λ c κs. search needs) (λ c. search needs) number-end-requires returns-5 returns-6 returns-7 returns-8 mul-number add-number number-requires-2 returns-9 returns-10 returns-11)

@@ -8,18 +8,6 @@ use borrow.Author.Needs.{needs}
 use Rattle.pattern.proofs.automaton.last.Statement.{statement}
 use Rattle.pattern.proofs.automaton.last.Tie as tie
 
-enum-told : tie.Need-enum-told
-enum-told c = search needs
-
-enum-told-2 : tie.Need-enum-told-2
-enum-told-2 c = search needs
-
-enum-known-s : tie.Need-enum-known-s
-enum-known-s c = search needs
-
-low-requires : tie.Need-low-requires
-low-requires c κs = search needs
-
 returns : tie.Need-returns
 returns c =
     let g = c .before .before .before .s .given in
@@ -31,9 +19,6 @@ add-if2 c =
     let g = c .before .before .before .s .given in
     let a = c .before .before .before .before .before .args in
     omega (arith, digits-bounded (a .s) 0 (g .0 .0) (g .0 .1 .0) (g .0 .1 .1 .0) (g .0 .1 .1 .1 .0) (g .0 .1 .1 .1 .1 .0) (g .1) 1000000 (c .before .before .before .before .before .pre))
-
-field-count-requires : tie.Need-field-count-requires
-field-count-requires c κs = search needs
 
 returns-2 : tie.Need-returns-2
 returns-2 c =
@@ -80,18 +65,4 @@ returns-6 c =
 pub last-spec : {M : Type 1} → statement M
 last-spec =
     tie.close
-    (tie.spec
-    enum-told
-    enum-told-2
-    enum-known-s
-    low-requires
-    returns
-    add-if2
-    field-count-requires
-    returns-2
-    whole-requires
-    whole-requires-2
-    returns-3
-    returns-4
-    returns-5
-    returns-6)
+    (tie.spec (λ c. search needs) (λ c. search needs) (λ c. search needs) (λ c κs. search needs) returns add-if2 (λ c κs. search needs) returns-2 whole-requires whole-requires-2 returns-3 returns-4 returns-5 returns-6)

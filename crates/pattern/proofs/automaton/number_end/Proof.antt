@@ -7,29 +7,11 @@ use borrow.Author.Needs.{needs}
 use Rattle.pattern.proofs.automaton.number_end.Statement.{statement}
 use Rattle.pattern.proofs.automaton.number_end.Tie as tie
 
-low-requires : tie.Need-low-requires
-low-requires c κs = search needs
-
 returns : tie.Need-returns
 returns c = simp (← c .before .low .ensures, lt-leb _ _ (c .if1 .taken))
 
-add-if2 : tie.Need-add-if2
-add-if2 c = search needs
-
-field-count-requires : tie.Need-field-count-requires
-field-count-requires c κs = search needs
-
-add-t9 : tie.Need-add-t9
-add-t9 c = search needs
-
 returns-2 : tie.Need-returns-2
 returns-2 c = simp (← c .before .field-count .ensures, ← c .before .before .before .low .ensures, le-leb _ _ (c .before .before .if1 .left), lt-ltb _ _ (c .if2 .taken))
-
-shut-requires : tie.Need-shut-requires
-shut-requires c κs = search needs
-
-shut-requires-2 : tie.Need-shut-requires-2
-shut-requires-2 c κs = search needs
 
 returns-3 : tie.Need-returns-3
 returns-3 c =
@@ -44,14 +26,4 @@ returns-4 c =
 pub number-end-spec : {M : Type 1} → statement M
 number-end-spec =
     tie.close
-    (tie.spec
-    low-requires
-    returns
-    add-if2
-    field-count-requires
-    add-t9
-    returns-2
-    shut-requires
-    shut-requires-2
-    returns-3
-    returns-4)
+    (tie.spec (λ c κs. search needs) returns (λ c. search needs) (λ c κs. search needs) (λ c. search needs) returns-2 (λ c κs. search needs) (λ c κs. search needs) returns-3 returns-4)

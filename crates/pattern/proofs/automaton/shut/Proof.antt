@@ -2,14 +2,10 @@
 -- Assumes nothing.
 use borrow.Author.Tests.{eq-eqb, ne-eqb}
 use native.Mathlib.Omega.{arith}
-use Rattle.pattern.specs.Automaton.{arity}
 use Rattle.pattern.proofs.Fields.{arity-below}
 use borrow.Author.Needs.{needs}
 use Rattle.pattern.proofs.automaton.shut.Statement.{statement}
 use Rattle.pattern.proofs.automaton.shut.Tie as tie
-
-arity-requires : tie.Need-arity-requires
-arity-requires c κs = search needs
 
 add-n : tie.Need-add-n
 add-n c = omega (arith, c .arity .ensures, arity-below (c .before .args .kind) (c .before .args .first))
@@ -17,11 +13,8 @@ add-n c = omega (arith, c .arity .ensures, arity-below (c .before .args .kind) (
 returns : tie.Need-returns
 returns c = simp (← c .before .arity .ensures, eq-eqb _ _ (c .if1 .taken))
 
-sub-t6 : tie.Need-sub-t6
-sub-t6 c = search needs
-
 returns-2 : tie.Need-returns-2
 returns-2 c = simp (← c .before .arity .ensures, ne-eqb _ _ (c .if1 .left))
 
 pub shut-spec : {M : Type 1} → statement M
-shut-spec = tie.close (tie.spec arity-requires add-n returns sub-t6 returns-2)
+shut-spec = tie.close (tie.spec (λ c κs. search needs) add-n returns (λ c. search needs) returns-2)

@@ -9,12 +9,6 @@ use Rattle.pattern.proofs.automaton.word_end.Tie as tie
 returns : tie.Need-returns
 returns c = simp (eq-eqb _ _ (c .if1 .taken))
 
-field-count-requires : tie.Need-field-count-requires
-field-count-requires c κs = search needs
-
-shut-requires : tie.Need-shut-requires
-shut-requires c κs = search needs
-
 returns-2 : tie.Need-returns-2
 returns-2 c = c .shut .ensures ∙ simp (← c .before .before .field-count .ensures, ne-eqb _ _ (c .before .before .before .if1 .left), eq-eqb _ _ (c .before .if2 .taken))
 
@@ -22,4 +16,4 @@ returns-3 : tie.Need-returns-3
 returns-3 c = simp (← c .before .field-count .ensures, ne-eqb _ _ (c .before .before .if1 .left), ne-eqb _ _ (c .if2 .left))
 
 pub word-end-spec : {M : Type 1} → statement M
-word-end-spec = tie.close (tie.spec returns field-count-requires shut-requires returns-2 returns-3)
+word-end-spec = tie.close (tie.spec returns (λ c κs. search needs) (λ c κs. search needs) returns-2 returns-3)

@@ -25,33 +25,12 @@ abbrev μ-loop : tie.MeasureT-loop
 loop-holds : tie.Need-loop-holds Inv-loop2 μ-loop2 Inv-loop μ-loop
 loop-holds c = (omega arith, λ e. outer-begin (c .args .t1) (c .args .t2) (c .args .count) e)
 
-sub-w : tie.Need-sub-w Inv-loop2 μ-loop2 Inv-loop μ-loop
-sub-w c = search needs
-
-mul-arity : tie.Need-mul-arity Inv-loop2 μ-loop2 Inv-loop μ-loop
-mul-arity c = search needs
-
-array-read-arity : tie.Need-array-read-arity Inv-loop2 μ-loop2 Inv-loop μ-loop
-array-read-arity c = search needs
-
-mul-arity-2 : tie.Need-mul-arity-2 Inv-loop2 μ-loop2 Inv-loop μ-loop
-mul-arity-2 c = search needs
-
-array-read-arity-2 : tie.Need-array-read-arity-2 Inv-loop2 μ-loop2 Inv-loop μ-loop
-array-read-arity-2 c = search needs
-
-arity-requires : tie.Need-arity-requires Inv-loop2 μ-loop2 Inv-loop μ-loop
-arity-requires c κs = search needs
-
 loop2-holds : tie.Need-loop2-holds Inv-loop2 μ-loop2 Inv-loop μ-loop
 loop2-holds c =
     let a = c .before .before .before .args in
     let z = c .before .before .before .pre in
     let l = c .before .before .loop in
     (omega arith, omega arith, omega arith, omega arith, λ e. inner-begin (a .t1) (a .t2) (a .count) e (l .v) (l .v - 1) (c .arity .result) (omega arith) (omega arith) (c .arity .ensures))
-
-mul-larger : tie.Need-mul-larger Inv-loop2 μ-loop2 Inv-loop μ-loop
-mul-larger c = search needs
 
 array-read-larger : tie.Need-array-read-larger Inv-loop2 μ-loop2 Inv-loop μ-loop
 array-read-larger c =
@@ -60,12 +39,6 @@ array-read-larger c =
     let l = c .before .before .before .before .loop in
     let i = c .before .loop2 in
     omega (arith, z .small, inner-below (a .t1) (a .t2) (a .count) z (l .v) (l .v - 1) (i .c) (i .d) (i .m) (l .size) (l .depth) (l .inv .1 z) (i .inv .4 z) (c .loop2-test .taken))
-
-larger-requires : tie.Need-larger-requires Inv-loop2 μ-loop2 Inv-loop μ-loop
-larger-requires c κs = search needs
-
-mul-c : tie.Need-mul-c Inv-loop2 μ-loop2 Inv-loop μ-loop
-mul-c c = search needs
 
 array-read-c : tie.Need-array-read-c Inv-loop2 μ-loop2 Inv-loop μ-loop
 array-read-c c =
@@ -83,12 +56,6 @@ add-c c =
     let i = c .before .before .loop2 in
     omega (arith, z .small, inner-sum (a .t1) (a .t2) (a .count) z (l .v) (l .v - 1) (i .c) (i .d) (i .m) (l .size) (l .depth) (l .inv .1 z) (i .inv .4 z) (c .before .loop2-test .taken))
 
-sub-m : tie.Need-sub-m Inv-loop2 μ-loop2 Inv-loop μ-loop
-sub-m c = search needs
-
-loop2-less : tie.Need-loop2-less Inv-loop2 μ-loop2 Inv-loop μ-loop
-loop2-less c = search needs
-
 loop2-again : tie.Need-loop2-again Inv-loop2 μ-loop2 Inv-loop μ-loop
 loop2-again c =
     let a = c .before .before .before .before .before .before .args in
@@ -98,27 +65,6 @@ loop2-again c =
     let b = inner-bounds (a .t1) (a .t2) (a .count) z (l .v) (l .v - 1) (i .c + getD (l .size) (i .c) 0) (c .larger .result) (i .m - 1) (inner-turn (a .t1) (a .t2) (a .count) z (l .v) (l .v - 1) (i .c) (i .d) (i .m) (l .size) (l .depth) (l .inv .1 z) (i .inv .4 z) (c .before .loop2-test .taken) (c .larger .result) (c .larger .ensures)) in
     (b .0, b .1, b .2, b .3, λ e. inner-turn (a .t1) (a .t2) (a .count) e (l .v) (l .v - 1) (i .c) (i .d) (i .m) (l .size) (l .depth) (l .inv .1 e) (i .inv .4 e) (c .before .loop2-test .taken) (c .larger .result) (c .larger .ensures))
 
-sub-size : tie.Need-sub-size Inv-loop2 μ-loop2 Inv-loop μ-loop
-sub-size c = search needs
-
-mul-size : tie.Need-mul-size Inv-loop2 μ-loop2 Inv-loop μ-loop
-mul-size c = search needs
-
-array-write-size : tie.Need-array-write-size Inv-loop2 μ-loop2 Inv-loop μ-loop
-array-write-size c = search needs
-
-add-depth : tie.Need-add-depth Inv-loop2 μ-loop2 Inv-loop μ-loop
-add-depth c = search needs
-
-mul-depth : tie.Need-mul-depth Inv-loop2 μ-loop2 Inv-loop μ-loop
-mul-depth c = search needs
-
-array-write-depth : tie.Need-array-write-depth Inv-loop2 μ-loop2 Inv-loop μ-loop
-array-write-depth c = search needs
-
-loop-less : tie.Need-loop-less Inv-loop2 μ-loop2 Inv-loop μ-loop
-loop-less c = search needs
-
 loop-again : tie.Need-loop-again Inv-loop2 μ-loop2 Inv-loop μ-loop
 loop-again c =
     let a = c .before .before .before .before .before .args in
@@ -126,9 +72,6 @@ loop-again c =
     let l = c .before .before .before .before .loop in
     let i = c .before .loop2 in
     (omega arith, λ e. outer-turn (a .t1) (a .t2) (a .count) e (l .v) (l .v - 1) (i .c) (i .d) (i .m) (l .size) (l .depth) (l .inv .1 e) (i .inv .4 e) (omega arith))
-
-array-read-root : tie.Need-array-read-root Inv-loop2 μ-loop2 Inv-loop μ-loop
-array-read-root c = search needs
 
 returns : tie.Need-returns Inv-loop2 μ-loop2 Inv-loop μ-loop
 returns c =
@@ -140,35 +83,4 @@ returns c =
 pub measure-spec : {M : Type 1} → statement M
 measure-spec =
     tie.close
-    (tie.spec
-    Inv-loop2
-    μ-loop2
-    Inv-loop
-    μ-loop
-    loop-holds
-    sub-w
-    mul-arity
-    array-read-arity
-    mul-arity-2
-    array-read-arity-2
-    arity-requires
-    loop2-holds
-    mul-larger
-    array-read-larger
-    larger-requires
-    mul-c
-    array-read-c
-    add-c
-    sub-m
-    loop2-less
-    loop2-again
-    sub-size
-    mul-size
-    array-write-size
-    add-depth
-    mul-depth
-    array-write-depth
-    loop-less
-    loop-again
-    array-read-root
-    returns)
+    (tie.spec Inv-loop2 μ-loop2 Inv-loop μ-loop loop-holds (λ c. search needs) (λ c. search needs) (λ c. search needs) (λ c. search needs) (λ c. search needs) (λ c κs. search needs) loop2-holds (λ c. search needs) array-read-larger (λ c κs. search needs) (λ c. search needs) array-read-c add-c (λ c. search needs) (λ c. search needs) loop2-again (λ c. search needs) (λ c. search needs) (λ c. search needs) (λ c. search needs) (λ c. search needs) (λ c. search needs) (λ c. search needs) loop-again (λ c. search needs) returns)

@@ -5,12 +5,6 @@ use borrow.Author.Needs.{needs}
 use Rattle.pattern.proofs.scanner.put.Statement.{statement}
 use Rattle.pattern.proofs.scanner.put.Tie as tie
 
-mul-a : tie.Need-mul-a
-mul-a c = search needs
-
-element-write-a : tie.Need-element-write-a
-element-write-a c = search needs
-
 returns : tie.Need-returns
 returns c = simp (lt-ltb _ _ (c .if1 .taken))
 
@@ -18,4 +12,4 @@ returns-2 : tie.Need-returns-2
 returns-2 c = simp (le-ltb _ _ (c .if1 .left))
 
 pub put-spec : {M : Type 1} → statement M
-put-spec = tie.close (tie.spec mul-a element-write-a returns returns-2)
+put-spec = tie.close (tie.spec (λ c. search needs) (λ c. search needs) returns returns-2)

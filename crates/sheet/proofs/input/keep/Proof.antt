@@ -29,21 +29,6 @@ returns c =
     let l = c .before .before .loop in
     record { count = omega (arith, l .inv); bytes = sym (sets-past (drop (l .i) (a .bytes .now)) (l .buffer) (l .at) (c .if1 .taken)) ∙ l .inv .3 }
 
-shared-slice-read-buffer : tie.Need-shared-slice-read-buffer Inv-loop μ-loop
-shared-slice-read-buffer c = search needs
-
-slice-write-buffer : tie.Need-slice-write-buffer Inv-loop μ-loop
-slice-write-buffer c = search needs
-
-add-at : tie.Need-add-at Inv-loop μ-loop
-add-at c = search needs
-
-add-i : tie.Need-add-i Inv-loop μ-loop
-add-i c = search needs
-
-loop-less : tie.Need-loop-less Inv-loop μ-loop
-loop-less c = search needs
-
 loop-again : tie.Need-loop-again Inv-loop μ-loop
 loop-again c =
     let a = c .before .before .before .before .before .before .args in
@@ -53,9 +38,6 @@ loop-again c =
       length-set (l .buffer) (l .at) (getD (a .bytes .now) (l .i) 0) ∙ l .inv .2,
       sets-next (a .bytes .now) (l .buffer) (l .i) (l .at) (c .before .before .loop-test .taken) ∙ l .inv .3,
     )
-
-least-requires : tie.Need-least-requires Inv-loop μ-loop
-least-requires c κs = search needs
 
 same-length-2 : tie.Need-same-length-2 Inv-loop μ-loop
 same-length-2 c = c .before .before .loop .inv .2
@@ -70,18 +52,4 @@ returns-2 c =
 pub keep-spec : {M : Type 1} → statement M
 keep-spec =
     tie.close
-    (tie.spec
-    Inv-loop
-    μ-loop
-    loop-holds
-    same-length
-    returns
-    shared-slice-read-buffer
-    slice-write-buffer
-    add-at
-    add-i
-    loop-less
-    loop-again
-    least-requires
-    same-length-2
-    returns-2)
+    (tie.spec Inv-loop μ-loop loop-holds same-length returns (λ c. search needs) (λ c. search needs) (λ c. search needs) (λ c. search needs) (λ c. search needs) loop-again (λ c κs. search needs) same-length-2 returns-2)

@@ -8,16 +8,10 @@ use Rattle.sheet.proofs.input.split.Tie as tie
 returns : tie.Need-returns
 returns c = parts-log (c .before .before .args .piece .now) (c .before .before .args .ended) (c .if1 .taken)
 
-feed-at-requires : tie.Need-feed-at-requires
-feed-at-requires c κs = search needs
-
 returns-2 : tie.Need-returns-2
 returns-2 c =
     let a = c .before .before .before .before .args in
     parts-none (a .piece .now) (a .ended) (c .before .feed-at .result) (c .before .before .if1 .left) (c .before .feed-at .ensures) (c .if2 .taken)
-
-add-t5 : tie.Need-add-t5
-add-t5 c = search needs
 
 returns-3 : tie.Need-returns-3
 returns-3 c =
@@ -25,4 +19,4 @@ returns-3 c =
     parts-feed (a .piece .now) (a .ended) (c .before .feed-at .result) (c .before .before .if1 .left) (c .before .feed-at .ensures) (c .if2 .left)
 
 pub split-spec : {M : Type 1} → statement M
-split-spec = tie.close (tie.spec returns feed-at-requires returns-2 add-t5 returns-3)
+split-spec = tie.close (tie.spec returns (λ c κs. search needs) returns-2 (λ c. search needs) returns-3)

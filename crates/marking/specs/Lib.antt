@@ -1,0 +1,4 @@
+pub mod Leaves
+pub mod Rows
+pub mod Plan
+pub mod Steps

@@ -1,0 +1,13 @@
+pub mod Bits
+pub mod Flags
+pub mod Lines
+pub mod Rows
+pub mod Packed
+pub mod WithRow
+pub mod Changes
+pub mod Changing
+pub mod Seeking
+pub mod Counting
+pub mod United
+pub mod Uniting
+pub mod Packing

@@ -1,0 +1,17 @@
+-- `marks::separate` meets its contract: the distance of the two rows is compared. Assumes nothing.
+use Prim.Native.Nat.{_-_}
+use mathlib.Core.Logic.{inl, inr}
+use native.Mathlib.Omega.{arith}
+use borrow.Author.Needs.{needs}
+use Rattle.marks.proofs.Uniting.{separated}
+use Rattle.marks.proofs.separate.Statement.{statement}
+use Rattle.marks.proofs.separate.Tie as tie
+
+returns : tie.Need-returns
+returns c = let a = c .before .args in separated (a .to) (a .at) (a .width) (a .at - a .to) (inl (omega arith))
+
+returns-2 : tie.Need-returns-2
+returns-2 c = let a = c .before .args in separated (a .to) (a .at) (a .width) (a .to - a .at) (inr (omega arith))
+
+pub separate-spec : {M : Type 1} → statement M
+separate-spec = tie.close (tie.spec (λ c. search needs) returns returns-2)

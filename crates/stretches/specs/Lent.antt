@@ -1,0 +1,30 @@
+-- Lent lists: one run of starts and ends in turn holding the lists one after another, and one run with the place where each list ends:
+-- the paper's "Finding".
+-- Assumes nothing.
+use Prim.Native.Nat.{ℕ, zero, suc, _-_}
+use mathlib.Core.List.{List, [], _∷_}
+use lib.ListN.{getD, take, drop}
+use Rattle.stretches.specs.Stretch.{Stretch, st}
+
+-- starts and ends in turn
+abbrev pub pairs : List ℕ → List Stretch
+pairs [] = []
+pairs (s ∷ []) = []
+pairs (s ∷ (e ∷ r)) = st s e ∷ pairs r
+
+-- the stretches from place i of the items up to place h
+abbrev pub part : List ℕ → ℕ → ℕ → List Stretch
+part items i h = pairs (take (h - i) (drop i items))
+
+-- the lists, where the first starts at place i of the items
+abbrev pub listsFrom : ℕ → List ℕ → List ℕ → List (List Stretch)
+listsFrom i items [] = []
+listsFrom i items (e ∷ ends) = part items i e ∷ listsFrom e items ends
+
+abbrev pub listsOf : List ℕ → List ℕ → List (List Stretch)
+listsOf items ends = listsFrom 0 items ends
+
+-- where list k starts: where the list before it ends
+abbrev pub startOf : List ℕ → ℕ → ℕ
+startOf ends zero = 0
+startOf ends (suc k) = getD ends k 0
