@@ -16,10 +16,10 @@ use Rattle.stretches.specs.Table.{kindAt, firstAt, secondAt}
 use Rattle.stretches.proofs.Fine.{fine-none, fine-marks}
 use Rattle.stretches.proofs.Steps.{in-onward, onward-all}
 use Rattle.stretches.proofs.Table.{fine-list}
-use Rattle.event_log.specs.Lines.{lines}
+use Rattle.lines.specs.Lines.{lines}
 use Rattle.event_log.specs.Line.{meaning}
 use Rattle.event_log.specs.Reading.{says}
-use Rattle.event_log.proofs.LinesLaws.{cut-few}
+use Rattle.lines.proofs.LinesLaws.{cut-few}
 use Rattle.pattern.specs.Answer.{numberOf, placeOf}
 use Rattle.pattern.specs.Reading as pattern
 use Rattle.pattern.specs.Reading.{Outcome, outcomeOf, tableOf, readingOf}

@@ -11,7 +11,7 @@ use Rattle.stretches.specs.Front as front
 use Rattle.stretches.specs.Filling.{moreAfter}
 use Rattle.stretches.specs.Run.{cut}
 use Rattle.stretches.proofs.Filling.{filled-front, done-all, room-done, drop-step}
-use Rattle.event_log.specs.Lines.{lines, Whole}
+use Rattle.lines.specs.Lines.{lines, Whole}
 use Rattle.meaning.specs.Refusals.{refusal, accepted}
 use Rattle.meaning.specs.Finding.{listOf}
 use Rattle.meaning.proofs.Finding.{run-list}

@@ -12,7 +12,7 @@ ghost use Rattle.marking.specs.Plan.{planNode, planned, prepared};
 pub fn width(log: &[u8]) -> usize
     ensures { λ r. ⌜ r ≡ widthOf (now (log .entry)) ⌝ }
 {
-    (event_log::line_count(log) + 63) / 64
+    (lines::line_count(log) + 63) / 64
 }
 
 // Node v: a leaf becomes the row of its number.

@@ -7,7 +7,7 @@ use lib.ListN.{length, drop, length-take, length-drop}
 use lib.Dec.{ltb}
 use borrow.Author.Tests.{ltb-true, ltb-false}
 use native.Mathlib.Omega.{arith}
-use Rattle.event_log.proofs.LinesLaws.{cut-few}
+use Rattle.lines.proofs.LinesLaws.{cut-few}
 use Rattle.event_log.specs.Reading.{says}
 use Rattle.pattern.specs.Answer.{noTable, Says, numberOf, placeOf}
 use Rattle.pattern.specs.Reading.{Outcome, Accepts, Refuses, outcomeOf, verdictOf}

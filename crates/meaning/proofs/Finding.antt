@@ -9,7 +9,7 @@ use lib.Dec.{ltb, eqb}
 use borrow.Author.Tests.{ltb-true, ltb-false, lt-ltb, le-ltb, eqb-true}
 use native.Mathlib.Omega.{arith}
 use Rattle.stretches.specs.Run.{cut}
-use Rattle.event_log.specs.Lines.{lines, Whole}
+use Rattle.lines.specs.Lines.{lines, Whole}
 use Rattle.event_log.specs.Reading.{says}
 use Rattle.pattern.specs.Pattern.{Pattern}
 use Rattle.pattern.specs.Reading.{Outcome, Accepts, Refuses, outcomeOf}

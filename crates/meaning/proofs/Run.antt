@@ -5,7 +5,7 @@ use mathlib.Core.Path.{_≡_, ap, ap₂, sym, _∙_}
 use mathlib.Core.List.{List, _++_}
 use lib.ListN.{length, length-map}
 use Rattle.stretches.specs.Run.{cut}
-use Rattle.event_log.specs.Lines.{lines, Whole}
+use Rattle.lines.specs.Lines.{lines, Whole}
 use Rattle.event_log.specs.Line.{meaning}
 use Rattle.event_log.specs.Reading.{says}
 use Rattle.event_log.specs.declared.Line.{Line}

@@ -7,7 +7,7 @@ use mathlib.Core.List.{List, [], _∷_}
 use lib.ListN.{length}
 use lib.Dec.{leb, ltb, eqb}
 use Rattle.stretches.specs.Stretch.{Stretch}
-use Rattle.event_log.specs.Lines.{lines}
+use Rattle.lines.specs.Lines.{lines}
 use Rattle.pattern.specs.Reading.{Outcome, Accepts, Refuses, outcomeOf}
 use Rattle.meaning.specs.Meaning.{answersIn}
 use Rattle.stretches.specs.Lent.{listsOf}

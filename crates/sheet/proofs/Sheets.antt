@@ -14,7 +14,7 @@ use Rattle.stretches.specs.Stretch.{Stretch}
 use Rattle.stretches.proofs.Answers.{Sound}
 use Rattle.stretches.proofs.Cut.{Below}
 use Rattle.event_log.specs.Reading.{says}
-use Rattle.event_log.proofs.LinesLaws.{cut-few}
+use Rattle.lines.proofs.LinesLaws.{cut-few}
 use Rattle.event_log.proofs.Walk.{damaged-few}
 use Rattle.basics.proofs.Basics.{le-or-lt}
 use Rattle.pattern.proofs.Outcomes.{refuses-long}

@@ -2,9 +2,9 @@
 use mathlib.Core.Path.{sym, ap, _∙_}
 use Prim.Native.Nat.{ℕ, _+_, _/_}
 use lib.ListN.{length-map}
-use Rattle.event_log.specs.Lines.{lines}
+use Rattle.lines.specs.Lines.{lines}
 use Rattle.event_log.specs.Line.{meaning}
-use Rattle.event_log.proofs.LinesLaws.{cut-few}
+use Rattle.lines.proofs.LinesLaws.{cut-few}
 use borrow.Author.Needs.{needs}
 use native.Mathlib.Omega.{arith}
 use Rattle.marking.proofs.plan.width.Statement.{statement}
