@@ -35,9 +35,9 @@ use Rattle.meaning.specs.Finding.{listOf, filling}
 use Rattle.meaning.specs.declared.Filled.{Filled}
 use Rattle.meaning.proofs.Finding.{long-log, bad-pattern, good-pattern, refused-list, accepted-list, accepted-number}
 use Rattle.meaning.proofs.Table.{table-answers}
-use Rattle.seek.specs.declared.Walked.{Walked}
+use Rattle.walk.specs.declared.Walked.{Walked}
 use Rattle.seek.specs.Source.{source, listOf as tableList, Good}
-use Rattle.seek.specs.Steps.{Filling, FillAll}
+use Rattle.walk.specs.Filling.{Filling, FillAll}
 use Rattle.marking.specs.Rows.{widthOf}
 use Rattle.marking.specs.Plan.{prepared}
 use Rattle.marking.proofs.Planning.{room-enough, prepared-lists, prepared-good}

@@ -1,7 +1,7 @@
 // The finder: opens on a pattern and a log, gives the next stretch at each step, or fills all of them into lent cells.
 use meaning::Filled;
 use pattern::Verdict;
-use seek::Walked;
+use walk::Walked;
 ghost use mathlib.Core.Path.{_≡_};
 ghost use Prim.Native.Nat.{_-_, _*_, _≤_, _<_};
 ghost use lib.ListN.{length, getD};
@@ -11,7 +11,7 @@ ghost use Rattle.pattern.specs.Answer.{numberOf, placeOf};
 ghost use Rattle.meaning.specs.Meaning.{tableIn};
 ghost use Rattle.meaning.specs.Finding.{listOf, filling};
 ghost use Rattle.marking.specs.Rows.{widthOf};
-ghost use Rattle.seek.specs.Steps.{Filling};
+ghost use Rattle.walk.specs.Filling.{Filling};
 ghost use Rattle.finder.specs.Promises.{readied, opened, listIn, among, handed, lineAfter, refilled, stepped};
 
 // The bytes that a log may have.
@@ -121,7 +121,7 @@ fn fill_with(
 {
     let table = marking::prepare(rows, log, width, words);
     let items = [0u32; 1];
-    seek::fill(&table, words, &items[..0], cells, line, from)
+    walk::fill(&table, words, &items[..0], cells, line, from)
 }
 
 // Few lines: 32 KiB of words.

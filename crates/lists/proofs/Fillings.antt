@@ -15,9 +15,9 @@ use Rattle.stretches.specs.Lent.{listsOf}
 use Rattle.stretches.proofs.Fine.{AllFine}
 use Rattle.meaning.specs.Refusals.{takesLists, takesBound, miscalled, listsRefusal}
 use Rattle.stretches.proofs.Steps.{onward-all}
-use Rattle.seek.specs.declared.Walked.{Walked}
+use Rattle.walk.specs.declared.Walked.{Walked}
 use Rattle.seek.specs.Source.{source, listOf}
-use Rattle.seek.specs.Steps.{Filling, FillAll}
+use Rattle.walk.specs.Filling.{Filling, FillAll}
 use Rattle.seek.proofs.Nodes.{fine}
 use Rattle.lists.specs.Filling.{listAnswers, walked, notFilled, fillResult, fillCells}
 use Rattle.lists.specs.Table.{Laid}

@@ -3,20 +3,20 @@
 use Prim.Native.Nat.{ℕ, zero, suc, _+_, _-_, _≤_, _<_}
 use mathlib.Core.Path.{_≡_, refl, sym, ap, ap₂, subst, _∙_}
 use mathlib.Core.Logic.{_⊎_, _≢_, inl, inr}
-use mathlib.Core.Bool.{true, cond}
+use mathlib.Core.Bool.{cond}
 use mathlib.Core.List.{List, [], _∷_}
 use native.Mathlib.Omega.{arith}
 use lib.ListN.{length, getD, set, drop, replicate, length-set, length-replicate, getD-replicate, drop-of-length-le}
 use lib.Seq.{getD-set-same, getD-set-other}
-use lib.Dec.{leb, eqb}
+use lib.Dec.{eqb}
 use borrow.Author.Tests.{le-leb, ne-eqb}
 use Rattle.stretches.specs.Stretch.{Stretch, Fine, marks, lengthOf}
 use Rattle.stretches.specs.Operators.{operatorOf, apply}
 use Rattle.stretches.specs.Lent.{part, listsFrom, listsOf, startOf}
-use Rattle.stretches.specs.Table.{sizeAt, firstAt, secondAt, nextOf, stopOf, operandsFrom, operandsOf}
+use Rattle.stretches.specs.Table.{firstAt, secondAt, nextOf, stopOf, operandsFrom, operandsOf}
 use Rattle.stretches.proofs.Fine.{AllFine, fine-none}
 use Rattle.stretches.proofs.Lent.{lists-at}
-use Rattle.stretches.proofs.Table.{from-more, from-end, list-node}
+use Rattle.stretches.proofs.Table.{next-is, stop-is, from-more, from-end, list-node}
 use Rattle.basics.proofs.Basics.{le-or-lt, open-at}
 use Rattle.marks.specs.Row.{row}
 use Rattle.seek.specs.Source.{source, lent, ownList, given, listOf, Good}
@@ -160,18 +160,11 @@ module _ (op k : ℕ) (items ends rows : List ℕ) (l : Laid op k (length ends) 
           subst (λ (m : ℕ). Fine 65536 (given (source [] items) rows .own m)) z (subst (Fine 65536) (sym (own-list j (omega arith))) (fine-at (listsOf items ends) f j))
       go (suc j) h (inr g) = subst (Fine 65536) (sym (own-other (suc j) g h)) (fine-none 65536)
 
-  stop-is : stopOf rows 0 ≡ length ends + 1
-  unfolding stopOf
-  stop-is =
-      let e : leb (sizeAt rows 0) (32 - 0) ≡ true = le-leb (sizeAt rows 0) (32 - 0) (omega (arith, l .size)) in
-      ap (λ b. cond b (0 + sizeAt rows 0) 32) e ∙ omega (arith, l .size)
+  stop-at : stopOf rows 0 ≡ length ends + 1
+  stop-at = stop-is rows 0 (length ends + 1) (omega (arith, l .size)) (omega arith) (omega (arith, l .size)) ∙ omega arith
 
-  next-is : (j : ℕ) → j < length ends → nextOf rows (1 + j) ≡ 1 + (j + 1)
-  unfolding nextOf
-  next-is j h =
-      let a = ne-eqb (sizeAt rows (1 + j)) 0 (λ e. omega (arith, l .sizes j h)) in
-      let b : leb (sizeAt rows (1 + j)) (32 - (1 + j)) ≡ true = le-leb (sizeAt rows (1 + j)) (32 - (1 + j)) (omega (arith, l .sizes j h)) in
-      ap₂ (λ x y. cond x (1 + j + 1) (cond y (1 + j + sizeAt rows (1 + j)) 32)) a b ∙ omega (arith, l .sizes j h)
+  next-at : (j : ℕ) → j < length ends → nextOf rows (1 + j) ≡ 1 + (j + 1)
+  next-at j h = next-is rows (1 + j) 1 (omega (arith, l .sizes j h)) (omega arith) (omega (arith, l .size)) ∙ omega arith
 
   leaf-list : (j : ℕ) → j < length ends → listOf (source [] items) rows (1 + j) ≡ part items (startOf ends j) (getD ends j 0)
   leaf-list j h =
@@ -186,7 +179,7 @@ module _ (op k : ℕ) (items ends rows : List ℕ) (l : Laid op k (length ends) 
   leaves (suc n) j e =
       from-more (given (source [] items) rows) rows (length ends + 1) (1 + j) (omega arith) (omega arith)
       ∙ ap₂ (λ (a : List Stretch) (b : List (List Stretch)). a ∷ b) (leaf-list j (omega arith))
-      (ap (operandsFrom (given (source [] items) rows) rows (length ends + 1)) (next-is j (omega arith)) ∙ leaves n (j + 1) (omega arith) ∙ ap (λ (x : ℕ). listsFrom x items (drop (j + 1) ends)) (sym (start-next ends j)))
+      (ap (operandsFrom (given (source [] items) rows) rows (length ends + 1)) (next-at j (omega arith)) ∙ leaves n (j + 1) (omega arith) ∙ ap (λ (x : ℕ). listsFrom x items (drop (j + 1) ends)) (sym (start-next ends j)))
       ∙ sym (ap (listsFrom (startOf ends j) items) (open-at ends j (omega arith)))
 
   -- its list is the operator's answers over the lent lists
@@ -196,4 +189,4 @@ module _ (op k : ℕ) (items ends rows : List ℕ) (l : Laid op k (length ends) 
       list-node (given (source [] items) rows) rows 0 (omega arith)
       ∙ ap₂ (λ (x y : ℕ). apply (operatorOf lengthOf x y) (given (source [] items) rows .own 0) (operandsOf (given (source [] items) rows) rows 0)) (l .kind) (l .bound)
       ∙ ap₂ (λ (x : List Stretch) (y : List (List Stretch)). apply (operatorOf lengthOf op k) x y) own-root
-      (ap₂ (operandsFrom (given (source [] items) rows) rows) stop-is z ∙ leaves (length ends) 0 (omega arith))
+      (ap₂ (operandsFrom (given (source [] items) rows) rows) stop-at z ∙ leaves (length ends) 0 (omega arith))

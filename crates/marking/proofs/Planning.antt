@@ -25,10 +25,10 @@ use Rattle.event_log.specs.Reading.{says}
 use Rattle.event_log.specs.Leaf.{codeIs, frameIs}
 use Rattle.meaning.specs.Meaning.{hits, overTable}
 use Rattle.seek.specs.Source.{source, lent, ownList, given, listOf, Good}
-use Rattle.seek.specs.Fold.{Folding, folding, withLeaf, folded}
+use Rattle.folding.specs.Fold.{Folding, folding, withLeaf, folded}
 use Rattle.seek.proofs.Nodes.{no-operator}
-use Rattle.seek.proofs.FoldLeaf.{Before, leaf-wide, leaf-kind, leaf-first, leaf-second, leaf-size, else-kind, else-first, else-second}
-use Rattle.seek.proofs.FoldLaws.{fold-lists, fold-good}
+use Rattle.folding.proofs.FoldLeaf.{Before, leaf-wide, leaf-kind, leaf-first, leaf-second, leaf-size, else-kind, else-first, else-second}
+use Rattle.folding.proofs.FoldLaws.{fold-lists, fold-good}
 use Rattle.marking.specs.Leaves.{held, numberIn, Gathered, are, leavesOf}
 use Rattle.marking.specs.Rows.{leafHits, rowsFrom, fit, rowsThen, marked}
 use Rattle.marking.specs.Plan.{planNode, plannedTo, planned, prepared}

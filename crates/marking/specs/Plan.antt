@@ -5,7 +5,7 @@ use mathlib.Core.List.{List}
 use lib.ListN.{length, replicate}
 use lib.Dec.{leb}
 use Rattle.stretches.specs.Table.{kindAt, firstAt, secondAt}
-use Rattle.seek.specs.Fold.{Folding, folding, withLeaf, folded}
+use Rattle.folding.specs.Fold.{Folding, folding, withLeaf, folded}
 use Rattle.event_log.specs.Reading.{says}
 use Rattle.marking.specs.Leaves.{numberIn, leavesOf}
 use Rattle.marking.specs.Rows.{fit, marked}

@@ -55,6 +55,6 @@ pub fn prepare(rows: &[usize; 128], log: &[u8], width: usize, words: &mut [u64])
     mark(log, &leaves, n, width, words);
     let mut table = *rows;
     plan(&mut table, &leaves, n, width);
-    seek::fold(&mut table, words, width, n * width);
+    folding::fold(&mut table, words, width, n * width);
     table
 }

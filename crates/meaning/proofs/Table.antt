@@ -1,15 +1,12 @@
 -- The list of a pattern is that of the table it is read into: node by node, each operand standing where the table's walk goes. Assumes nothing.
 use Prim.Native.Nat.{ℕ, suc, _+_, _-_, _≤_, _<_}
 use mathlib.Core.Path.{_≡_, ap, ap₂, _∙_}
-use mathlib.Core.Bool.{true, cond}
 use mathlib.Core.List.{List, _∷_, map}
 use native.Mathlib.Omega.{arith}
-use lib.Dec.{leb}
-use borrow.Author.Tests.{le-leb, ne-eqb}
 use Rattle.stretches.specs.Stretch.{Stretch, marks}
 use Rattle.stretches.specs.Operators.{operatorOf, apply}
 use Rattle.stretches.specs.Table.{sizeAt, secondAt, nextOf, stopOf, listAt, operandsFrom, operandsOf}
-use Rattle.stretches.proofs.Table.{from-more, from-end, list-node}
+use Rattle.stretches.proofs.Table.{next-is, stop-is, from-more, from-end, list-node}
 use Rattle.event_log.specs.declared.Line.{Line}
 use Rattle.event_log.specs.Reading.{says}
 use Rattle.pattern.specs.Pattern.{Symbol, Pattern, Patterns, Node, Nil, Cons, nodes, nodesOf}
@@ -21,19 +18,6 @@ nodes-some (Node h ps) = omega arith
 
 tree-size : (rows : List ℕ) (v : ℕ) (p : Pattern) → Tree rows v p → sizeAt rows v ≡ nodes p
 tree-size rows v (Node h ps) t = t .0 .size
-
-stop-is : (rows : List ℕ) (v n : ℕ) → sizeAt rows v ≡ n → v + n ≤ 32 → stopOf rows v ≡ v + n
-unfolding stopOf
-stop-is rows v n e h =
-    let k : leb (sizeAt rows v) (32 - v) ≡ true = le-leb (sizeAt rows v) (32 - v) (omega arith) in
-    ap (λ b. cond b (v + sizeAt rows v) 32) k ∙ omega arith
-
-next-is : (rows : List ℕ) (c n : ℕ) → sizeAt rows c ≡ n → 0 < n → c + n ≤ 32 → nextOf rows c ≡ c + n
-unfolding nextOf
-next-is rows c n e z h =
-    let j = ne-eqb (sizeAt rows c) 0 (λ y. omega arith) in
-    let k : leb (sizeAt rows c) (32 - c) ≡ true = le-leb (sizeAt rows c) (32 - c) (omega arith) in
-    ap₂ (λ a b. cond a (c + 1) (cond b (c + sizeAt rows c) 32)) j k ∙ omega arith
 
 module _ (rows : List ℕ) (ls : List Line) where
   -- a node's list, by its symbol
@@ -47,7 +31,7 @@ module _ (rows : List ℕ) (ls : List Line) where
   mutual
     tree-list : (v : ℕ) (p : Pattern) → Tree rows v p → v + nodes p ≤ 32 → listAt (overTable rows ls) rows v ≡ eval (overLines ls) p
     tree-list v (Node h ps) t fits =
-        let s : stopOf rows v ≡ v + 1 + nodesOf ps = stop-is rows v (suc (nodesOf ps)) (t .0 .size) fits ∙ omega arith in
+        let s : stopOf rows v ≡ v + 1 + nodesOf ps = stop-is rows v (suc (nodesOf ps)) (t .0 .size) (omega arith) fits ∙ omega arith in
         node-is v h (suc (nodesOf ps)) (omega arith) (t .0)
         ∙ ap (apply (operatorOf (measureIn ls) (kindOf h) (firstOf h)) (marks 0 (map (hits (kindOf h) (firstOf h) (secondOf h)) ls))) (trees-lists (stopOf rows v) (v + 1) ps (t .1) s (omega arith))
 

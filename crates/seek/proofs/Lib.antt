@@ -6,7 +6,4 @@ pub mod Shapes
 pub mod State
 pub mod Turns
 pub mod Searches
-pub mod Walk
-pub mod FoldLeaf
-pub mod FoldLaws
-pub mod FoldSteps
+pub mod Ahead

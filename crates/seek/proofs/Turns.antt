@@ -27,7 +27,7 @@ abbrev pub left : Source → List ℕ → ℕ → ℕ → List (List Stretch)
 left src rows v c = operandsFrom (given src rows) rows (stopOf rows v) c
 
 left-more : (src : Source) (rows : List ℕ) (v c : ℕ) → v < 32 → c < stopOf rows v → left src rows v c ≡ listOf src rows c ∷ left src rows v (nextOf rows c)
-left-more src rows v c lv lt = from-more (given src rows) rows (stopOf rows v) c lt (stop-most rows v (omega arith))
+left-more src rows v c lv lt = from-more (given src rows) rows (stopOf rows v) c lt (stop-most rows v)
 
 left-end : (src : Source) (rows : List ℕ) (v c : ℕ) → stopOf rows v ≤ c → left src rows v c ≡ []
 left-end src rows v c le = from-end (given src rows) rows (stopOf rows v) c le

@@ -3,4 +3,3 @@ pub mod Fronts
 pub mod Seek
 pub mod Leaves
 pub mod Steps
-pub mod Fold

@@ -1,18 +1,11 @@
--- What a seek with a kept state and a filling call over a table promise. Assumes nothing.
-use Prim.Native.Nat.{ℕ, _*_, _≤_, _<_}
+-- What a seek with a kept state promises. Assumes nothing.
+use Prim.Native.Nat.{ℕ, _≤_, _<_}
 use mathlib.Core.Path.{_≡_}
 use mathlib.Core.List.{List}
-use lib.ListN.{length, drop}
-use Rattle.stretches.specs.Stretch.{Stretch}
-use Rattle.stretches.specs.Front.{onward}
-use Rattle.stretches.specs.Filling.{written, filled, moreAfter}
 use Rattle.seek.specs.declared.Front.{Front}
-use Rattle.seek.specs.declared.Walked.{Walked}
-use Rattle.seek.specs.Source.{Source, listOf, Good}
+use Rattle.seek.specs.Source.{Source, Good}
 use Rattle.seek.specs.Fronts.{noneF}
 use Rattle.seek.specs.Seek.{Ready, Found}
-
--- ── Seeking ──
 
 -- where every list is fine and the state is one that seeks over this table left, the node's front; such a state again
 pub record FirstOf (src : Source) (rows s : List ℕ) (v t : ℕ) (r : Front) (s' : List ℕ) : Type 0 where
@@ -24,30 +17,3 @@ pub record Ahead (t : ℕ) (r : Front) : Type 0 where
   pub from : r .start < 65536 → t ≤ r .start
   pub small : r .start ≤ 65536
   pub none : 65536 ≤ r .start → r ≡ noneF
-
--- ── Filling ──
-
--- l's answers from number f were written into cells
-pub record Filling (l : List Stretch) (f : ℕ) (cells : List ℕ) (r : Walked) (cells' : List ℕ) : Type 0 where
-  pub count : r .count ≡ length (written l f cells)
-  pub more : r .more ≡ moreAfter l f cells
-  pub wrote : cells' ≡ filled l f cells
-
--- where every list is fine, the answers of node 0 from the line on, from number f of them on
-pub record FillAll (src : Source) (rows : List ℕ) (line f : ℕ) (cells : List ℕ) (r : Walked) (cells' : List ℕ) : Type 0 where
-  pub fills : Good src rows → Filling (onward (listOf src rows 0) line) f cells r cells'
-
--- whatever the table and the source: the written pairs fit, and what is beyond them keeps its contents
-pub record Within (cells : List ℕ) (r : Walked) (cells' : List ℕ) : Type 0 where
-  pub fits : 2 * r .count ≤ length cells
-  pub keeps : drop (2 * r .count) cells' ≡ drop (2 * r .count) cells
-
--- ── On the way: what the two walks of the filling call promise ──
-
--- n of the answers from line t on were passed over, and the next is sought from line t'
-pub record PassedOver (src : Source) (rows s : List ℕ) (t n t' : ℕ) (s' : List ℕ) : Type 0 where
-  pub ready : Good src rows → Ready src rows s → Ready src rows s'
-  pub rest : Good src rows → Ready src rows s → onward (listOf src rows 0) t' ≡ drop n (onward (listOf src rows 0) t)
-
-pub record Put (src : Source) (rows s : List ℕ) (t : ℕ) (cells : List ℕ) (r : Walked) (cells' : List ℕ) : Type 0 where
-  pub puts : Good src rows → Ready src rows s → Filling (onward (listOf src rows 0) t) 0 cells r cells'

@@ -8,7 +8,7 @@ use mathlib.Core.List.{List, [], _∷_, map}
 use native.Mathlib.Omega.{arith}
 use lib.ListN.{length, getD}
 use lib.Dec.{leb, ltb, eqb}
-use borrow.Author.Tests.{leb-true, lt-ltb, le-ltb, eq-eqb, ne-eqb, eqb-false}
+use borrow.Author.Tests.{leb-true, ltb-true, le-leb, lt-ltb, le-ltb, eq-eqb, ne-eqb, eqb-false}
 use Rattle.basics.proofs.Basics.{cases, eq-or-ne}
 use Rattle.stretches.specs.Stretch.{Stretch, Fine}
 use Rattle.stretches.specs.Operators.{operatorOf, apply}
@@ -19,24 +19,48 @@ use Rattle.stretches.proofs.Fine.{AllFine, all-none, all-more, first-fi
 
 pub next-past : (rows : List ℕ) (c : ℕ) → c < 32 → (c < nextOf rows c) × (nextOf rows c ≤ 32)
 unfolding nextOf
-next-past rows c h = cases (eqb (sizeAt rows c) 0) (λ b. (c < cond b (c + 1) (cond (leb (sizeAt rows c) (32 - c)) (c + sizeAt rows c) 32)) × (cond b (c + 1) (cond (leb (sizeAt rows c) (32 - c)) (c + sizeAt rows c) 32) ≤ 32))
+next-past rows c h =
+    let behind = cond (leb (sizeAt rows c) (32 - c)) (c + sizeAt rows c) 32 in
+    subst (λ b. (c < cond b (cond (eqb (sizeAt rows c) 0) (c + 1) behind) 32) × (cond b (cond (eqb (sizeAt rows c) 0) (c + 1) behind) 32 ≤ 32)) (sym (lt-ltb c 32 h))
+    (cases (eqb (sizeAt rows c) 0) (λ b. (c < cond b (c + 1) behind) × (cond b (c + 1) behind ≤ 32))
     (λ e. (omega arith, omega arith))
     (λ e. let n = eqb-false (sizeAt rows c) 0 e in
     cases (leb (sizeAt rows c) (32 - c)) (λ b. (c < cond b (c + sizeAt rows c) 32) × (cond b (c + sizeAt rows c) 32 ≤ 32))
-    (λ k. let l = leb-true (sizeAt rows c) (32 - c) k in (omega (arith, n), omega arith)) (λ k. (omega arith, omega arith)))
+    (λ k. let l = leb-true (sizeAt rows c) (32 - c) k in (omega (arith, n), omega arith)) (λ k. (omega arith, omega arith))))
 
-pub stop-most : (rows : List ℕ) (v : ℕ) → v ≤ 32 → stopOf rows v ≤ 32
+pub stop-most : (rows : List ℕ) (v : ℕ) → stopOf rows v ≤ 32
 unfolding stopOf
-stop-most rows v h = cases (leb (sizeAt rows v) (32 - v)) (λ b. cond b (v + sizeAt rows v) 32 ≤ 32) (λ k. let l = leb-true (sizeAt rows v) (32 - v) k in omega arith) (λ k. omega arith)
+stop-most rows v =
+    cases (ltb v 32) (λ b. cond b (cond (leb (sizeAt rows v) (32 - v)) (v + sizeAt rows v) 32) 32 ≤ 32)
+    (λ h. let i = ltb-true v 32 h in
+    cases (leb (sizeAt rows v) (32 - v)) (λ b. cond b (v + sizeAt rows v) 32 ≤ 32) (λ k. let l = leb-true (sizeAt rows v) (32 - v) k in omega arith) (λ k. omega arith))
+    (λ h. omega arith)
+
+-- a subtree that ends inside the table
+pub next-is : (rows : List ℕ) (c n : ℕ) → sizeAt rows c ≡ n → 0 < n → c + n ≤ 32 → nextOf rows c ≡ c + n
+unfolding nextOf
+next-is rows c n e z h =
+    let i : ltb c 32 ≡ true = lt-ltb c 32 (omega arith) in
+    let j = ne-eqb (sizeAt rows c) 0 (λ y. omega arith) in
+    let k : leb (sizeAt rows c) (32 - c) ≡ true = le-leb (sizeAt rows c) (32 - c) (omega arith) in
+    ap (λ b. cond b (cond (eqb (sizeAt rows c) 0) (c + 1) (cond (leb (sizeAt rows c) (32 - c)) (c + sizeAt rows c) 32)) 32) i
+    ∙ ap₂ (λ a b. cond a (c + 1) (cond b (c + sizeAt rows c) 32)) j k ∙ omega arith
+
+pub stop-is : (rows : List ℕ) (v n : ℕ) → sizeAt rows v ≡ n → 0 < n → v + n ≤ 32 → stopOf rows v ≡ v + n
+unfolding stopOf
+stop-is rows v n e z h =
+    let i : ltb v 32 ≡ true = lt-ltb v 32 (omega arith) in
+    let k : leb (sizeAt rows v) (32 - v) ≡ true = le-leb (sizeAt rows v) (32 - v) (omega arith) in
+    ap₂ (λ a b. cond a (cond b (v + sizeAt rows v) 32) 32) i k ∙ omega arith
 
 -- they go by the sizes alone
 next-same : (rows rows' : List ℕ) (c : ℕ) → sizeAt rows' c ≡ sizeAt rows c → nextOf rows' c ≡ nextOf rows c
 unfolding nextOf
-next-same rows rows' c e = ap (λ (n : ℕ). cond (eqb n 0) (c + 1) (cond (leb n (32 - c)) (c + n) 32)) e
+next-same rows rows' c e = ap (λ (n : ℕ). cond (ltb c 32) (cond (eqb n 0) (c + 1) (cond (leb n (32 - c)) (c + n) 32)) 32) e
 
 stop-same : (rows rows' : List ℕ) (v : ℕ) → sizeAt rows' v ≡ sizeAt rows v → stopOf rows' v ≡ stopOf rows v
 unfolding stopOf
-stop-same rows rows' v e = ap (λ (n : ℕ). cond (leb n (32 - v)) (v + n) 32) e
+stop-same rows rows' v e = ap (λ (n : ℕ). cond (ltb v 32) (cond (leb n (32 - v)) (v + n) 32) 32) e
 
 -- ── Operands among the nodes from u on ──
 

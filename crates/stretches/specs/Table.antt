@@ -25,13 +25,13 @@ secondAt rows v = getD rows (96 + v) 0
 
 -- ── Operands: the first stands behind its operator, each next one behind the subtree of the one before ──
 
--- the place behind c's subtree: past c, and at most 32
+-- the place behind c's subtree: past c, and at most 32; 32 where there is no node c
 unfoldable pub nextOf : List ℕ → ℕ → ℕ
-nextOf rows c = cond (eqb (sizeAt rows c) 0) (c + 1) (cond (leb (sizeAt rows c) (32 - c)) (c + sizeAt rows c) 32)
+nextOf rows c = cond (ltb c 32) (cond (eqb (sizeAt rows c) 0) (c + 1) (cond (leb (sizeAt rows c) (32 - c)) (c + sizeAt rows c) 32)) 32
 
--- the place behind v's operands
+-- the place behind v's operands; 32 where there is no node v
 unfoldable pub stopOf : List ℕ → ℕ → ℕ
-stopOf rows v = cond (leb (sizeAt rows v) (32 - v)) (v + sizeAt rows v) 32
+stopOf rows v = cond (ltb v 32) (cond (leb (sizeAt rows v) (32 - v)) (v + sizeAt rows v) 32) 32
 
 -- of what there is of each node from u on, that of the operands from c on up to stop
 unfoldable pub operands : {A : Type 0} → List ℕ → ℕ → ℕ → ℕ → List A → List A

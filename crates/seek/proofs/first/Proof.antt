@@ -1,5 +1,5 @@
 -- `seek::first` meets its contract: each return is one law. Assumes nothing.
-use Rattle.seek.proofs.Walk.{first-out, first-none, first-bad, first-at}
+use Rattle.seek.proofs.Ahead.{first-out, first-none, first-bad, first-at}
 use borrow.Author.Needs.{needs}
 use native.Mathlib.Omega.{arith}
 use Rattle.seek.proofs.first.Statement.{statement}

@@ -1,5 +1,5 @@
 -- `marking::plan::plan_node` meets its contract. Assumes nothing.
-use Rattle.seek.specs.Fold.{withLeaf}
+use Rattle.folding.specs.Fold.{withLeaf}
 use Rattle.marking.proofs.Marking.{small-product}
 use Rattle.marking.proofs.Planning.{plan-other, plan-leaf}
 use borrow.Author.Needs.{needs}

@@ -6,8 +6,8 @@ use Rattle.seek.proofs.fronts.breaks.Reads as breaks-reads
 use Rattle.seek.proofs.fronts.look_of.Reads as look-of-reads
 use Rattle.seek.proofs.fronts.no_look.Reads as no-look-reads
 use Rattle.seek.proofs.fronts.past.Reads as past-reads
-use Rattle.seek.proofs.table.next_of.Reads as next-of-reads
-use Rattle.seek.proofs.table.stop_of.Reads as stop-of-reads
+use Rattle.nodes.proofs.next_of.Reads as next-of-reads
+use Rattle.nodes.proofs.stop_of.Reads as stop-of-reads
 use Rattle.seek.proofs.machine.chain.Reads as chain
 use Rattle.seek.proofs.machine.seek.Reads as seek
 use Rattle.seek.proofs.machine.+chain+filter+fresh+look_at+narrow+passes+renew+seek+seek_or+skip+span.Lts-chain as lts
@@ -29,7 +29,7 @@ returns : (t : ℕ) → lts.Need-returns (R t) (chain-at t) chain.Post Inv-loop 
 returns t c = λ k. chain-gone (c .before .before .before .before .before .before .before .before .pre .1 .0) (c .before .before .before .before .before .before .before .before .pre .1 .1) (c .before .before .seek .ensures) (c .before .if1 .taken) (c .no-look .ensures) k
 
 loop-holds : (t : ℕ) → lts.Need-loop-holds (R t) (chain-at t) chain.Post Inv-loop μ-loop
-loop-holds t c = (chain-start (c .next-of .ensures .1), omega arith)
+loop-holds t c = (chain-start (c .next-of .ensures .1), omega (arith, c .next-of .ensures .0 .0 (omega arith)))
 
 returns-2 : (t : ℕ) → lts.Need-returns-2 (R t) (chain-at t) chain.Post Inv-loop μ-loop
 returns-2 t c = λ k. chain-stop (c .before .before .before .before .before .before .before .before .before .before .before .before .before .before .before .before .pre .1 .0) (c .before .before .before .before .before .before .before .before .before .before .before .before .before .before .before .before .pre .1 .1) (c .before .before .before .before .before .before .before .before .before .before .seek .ensures) (c .before .before .before .before .before .before .before .before .before .if1 .left) (c .before .before .before .before .before .before .before .loop .inv .0) k (omega (arith, c .before .before .before .before .before .before .before .before .before .before .before .before .stop-of .ensures .1)) (c .before .before .before .before .before .past .ensures) (c .before .before .before .seek2 .ensures) (c .before .if2 .taken) (c .no-look2 .ensures)
@@ -38,10 +38,10 @@ returns-3 : (t : ℕ) → lts.Need-returns-3 (R t) (chain-at t) chain.Post Inv-l
 returns-3 t c = λ k. chain-break (c .before .before .before .before .before .before .before .before .before .before .before .before .before .before .before .before .before .before .pre .1 .0) (c .before .before .before .before .before .before .before .before .before .before .before .before .before .before .before .before .before .before .pre .1 .1) (c .before .before .before .before .before .before .before .before .before .before .before .before .seek .ensures) (c .before .before .before .before .before .before .before .before .before .before .before .if1 .left) (c .before .before .before .before .before .before .before .before .before .loop .inv .0) k (omega (arith, c .before .before .before .before .before .before .before .before .before .before .before .before .before .before .stop-of .ensures .1)) (c .before .before .before .before .before .before .before .past .ensures) (c .before .before .before .before .before .seek2 .ensures) (c .before .before .before .if2 .left) (sym (c .before .before .breaks .ensures) ∙ c .before .if3 .taken) (c .look-of .ensures)
 
 loop-again : (t : ℕ) → lts.Need-loop-again (R t) (chain-at t) chain.Post Inv-loop μ-loop
-loop-again t c = (chain-turn (c .before .before .before .before .before .before .before .before .before .before .before .before .before .before .before .before .before .before .pre .1 .0) (c .before .before .before .before .before .before .before .before .before .loop .inv .0) (omega (arith, c .before .before .before .before .before .before .before .before .before .before .before .before .before .before .stop-of .ensures .1)) (c .before .before .before .before .before .before .before .past .ensures) (c .before .before .before .before .before .seek2 .ensures) (c .before .before .before .if2 .left) (sym (c .before .before .breaks .ensures) ∙ c .before .if3 .left) (c .next-of2 .ensures .1), omega arith)
+loop-again t c = (chain-turn (c .before .before .before .before .before .before .before .before .before .before .before .before .before .before .before .before .before .before .pre .1 .0) (c .before .before .before .before .before .before .before .before .before .loop .inv .0) (omega (arith, c .before .before .before .before .before .before .before .before .before .before .before .before .before .before .stop-of .ensures .1)) (c .before .before .before .before .before .before .before .past .ensures) (c .before .before .before .before .before .seek2 .ensures) (c .before .before .before .if2 .left) (sym (c .before .before .breaks .ensures) ∙ c .before .if3 .left) (c .next-of2 .ensures .1), omega (arith, c .next-of2 .ensures .0 .0 (omega arith)))
 
 returns-4 : (t : ℕ) → lts.Need-returns-4 (R t) (chain-at t) chain.Post Inv-loop μ-loop
 returns-4 t c = λ k. chain-end (c .before .before .before .before .before .before .before .before .before .before .before .pre .1 .0) (c .before .before .before .before .before .before .before .before .before .before .before .pre .1 .1) (c .before .before .before .before .before .seek .ensures) (c .before .before .before .before .if1 .left) (c .before .before .loop .inv .0) k (omega (arith, c .before .before .before .before .before .before .before .stop-of .ensures .1)) (c .look-of2 .ensures)
 
 pub proved : {M : Type 1} (t : ℕ) → lts.Closed (R t) (chain-at t) chain.Post M
-proved t = lts.spec (R t) (chain-at t) chain.Post Inv-loop μ-loop (λ c. search needs) (λ c. search needs) (λ c κs. search needs) (λ c. search needs) (λ c κs. search needs) (λ c κs. search needs) (returns t) (λ c. search needs) (λ c κs. search needs) (loop-holds t) (λ c κs. search needs) (λ c κs. search needs) (λ c κs. search needs) (returns-2 t) (λ c κs. search needs) (λ c κs. search needs) (returns-3 t) (λ c κs. search needs) (λ c. search needs) (loop-again t) (λ c κs. search needs) (returns-4 t)
+proved t = lts.spec (R t) (chain-at t) chain.Post Inv-loop μ-loop (λ c. search needs) (λ c. search needs) (λ c κs. search needs) (λ c. search needs) (λ c κs. search needs) (λ c κs. search needs) (returns t) (λ c. search needs) (λ c κs. search needs) (loop-holds t) (λ c κs. search needs) (λ c κs. search needs) (λ c κs. search needs) (returns-2 t) (λ c κs. search needs) (λ c κs. search needs) (returns-3 t) (λ c κs. search needs) (λ c. omega (arith, c .next-of2 .ensures .0 .0 (omega arith))) (loop-again t) (λ c κs. search needs) (returns-4 t)

@@ -16,7 +16,7 @@ abbrev R : ℕ → lts.Claims
 R t = (seek-below t, seek.Post, no-look-reads.Asked, no-look-reads.Learnt, passes-below t, passes.Post, look-of-reads.Asked, look-of-reads.Learnt)
 
 seek-requires : (t : ℕ) → lts.Need-seek-requires (R t) (filter-at t) filter.Post
-seek-requires t c κs = (search needs, omega (arith, c .before .before .before .pre .1, stop-most (c .before .before .before .args .rows .now) (c .before .before .before .args .v) (omega (arith, c .before .before .before .pre .1))))
+seek-requires t c κs = (search needs, omega (arith, c .before .before .before .pre .1, stop-most (c .before .before .before .args .rows .now) (c .before .before .before .args .v)))
 
 returns : (t : ℕ) → lts.Need-returns (R t) (filter-at t) filter.Post
 returns t c = λ k. filter-gone (c .before .before .before .before .before .before .before .pre .1 .0) (c .before .before .before .before .before .before .before .pre .1 .1) (c .before .before .before .seek .ensures) (c .before .if1 .taken) (c .no-look .ensures) k

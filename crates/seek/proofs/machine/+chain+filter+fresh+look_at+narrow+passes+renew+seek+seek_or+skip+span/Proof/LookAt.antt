@@ -3,7 +3,7 @@ use Prim.Native.Nat.{ℕ}
 use borrow.Author.Needs.{needs}
 use native.Mathlib.Omega.{arith}
 use Rattle.seek.proofs.fronts.no_look.Reads as no-look-reads
-use Rattle.seek.proofs.table.stop_of.Reads as stop-of-reads
+use Rattle.nodes.proofs.stop_of.Reads as stop-of-reads
 use Rattle.seek.proofs.machine.chain.Reads as chain
 use Rattle.seek.proofs.machine.filter.Reads as filter
 use Rattle.seek.proofs.machine.look_at.Reads as look-at

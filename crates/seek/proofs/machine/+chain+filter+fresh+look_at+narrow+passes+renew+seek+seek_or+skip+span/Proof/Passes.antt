@@ -3,13 +3,12 @@ use Prim.Native.Nat.{ℕ}
 use borrow.Author.Needs.{needs}
 use native.Mathlib.Omega.{arith}
 use Rattle.seek.proofs.fronts.measure.Reads as measure-reads
-use Rattle.seek.proofs.table.next_of.Reads as next-of-reads
-use Rattle.seek.proofs.table.stop_of.Reads as stop-of-reads
+use Rattle.nodes.proofs.next_of.Reads as next-of-reads
+use Rattle.nodes.proofs.stop_of.Reads as stop-of-reads
 use Rattle.seek.proofs.machine.passes.Reads as passes
 use Rattle.seek.proofs.machine.seek.Reads as seek
 use Rattle.seek.proofs.machine.+chain+filter+fresh+look_at+narrow+passes+renew+seek+seek_or+skip+span.Lts-passes as lts
 use Rattle.seek.proofs.machine.+chain+filter+fresh+look_at+narrow+passes+renew+seek+seek_or+skip+span.Proof.Common.{passes-at, seek-below}
-use Rattle.stretches.proofs.Table.{stop-most}
 use mathlib.Core.Path.{refl}
 use Rattle.seek.proofs.Turns.{test-max, test-alone, test-less}
 
@@ -19,14 +18,14 @@ R t = (measure-reads.Asked, measure-reads.Learnt, next-of-reads.Asked, next-of-r
 returns : (t : ℕ) → lts.Need-returns (R t) (passes-at t) passes.Post
 returns t c = test-max (c .before .before .before .before .before .before .pre .1 .0) (c .before .before .before .before .before .before .pre .1 .1) (c .before .before .if1 .taken) (c .before .measure .ensures) refl
 
-next-of-requires : (t : ℕ) → lts.Need-next-of-requires (R t) (passes-at t) passes.Post
-next-of-requires t c κs = omega (arith, c .before .before .before .before .pre .1, stop-most (c .before .before .before .before .args .rows .now) (c .before .before .before .before .args .v) (omega (arith, c .before .before .before .before .pre .1)))
-
 returns-2 : (t : ℕ) → lts.Need-returns-2 (R t) (passes-at t) passes.Post
 returns-2 t c = test-alone (c .before .before .before .before .before .before .before .pre .1 .0) (c .before .before .before .before .before .before .before .pre .1 .1) (c .before .before .before .if1 .left) (c .before .before .next-of .ensures .1) (omega (arith, c .before .stop-of .ensures .1)) refl
+
+seek-requires : (t : ℕ) → lts.Need-seek-requires (R t) (passes-at t) passes.Post
+seek-requires t c κs = let h = c .before .before .before .next-of .ensures .0 .0 (omega (arith, c .before .before .before .before .before .before .before .before .pre .1)) in (omega (arith, h), omega arith)
 
 returns-3 : (t : ℕ) → lts.Need-returns-3 (R t) (passes-at t) passes.Post
 returns-3 t c = test-less (c .before .before .before .before .before .before .before .before .before .before .before .pre .1 .0) (c .before .before .before .before .before .before .before .before .before .before .before .pre .1 .1) (c .before .before .before .before .before .before .before .if1 .left) (c .before .before .before .before .before .before .next-of .ensures .1) (omega (arith, c .before .before .before .before .before .stop-of .ensures .1)) (c .before .before .seek .ensures) refl
 
 pub proved : {M : Type 1} (t : ℕ) → lts.Closed (R t) (passes-at t) passes.Post M
-proved t = lts.spec (R t) (passes-at t) passes.Post (λ c. search needs) (λ c. search needs) (λ c κs. search needs) (λ c. search needs) (λ c. search needs) (λ c. search needs) (returns t) (λ c. search needs) (next-of-requires t) (λ c κs. search needs) (returns-2 t) (λ c κs. search needs) (returns-3 t)
+proved t = lts.spec (R t) (passes-at t) passes.Post (λ c. search needs) (λ c. search needs) (λ c κs. search needs) (λ c. search needs) (λ c. search needs) (λ c. search needs) (returns t) (λ c. search needs) (λ c κs. search needs) (λ c κs. search needs) (returns-2 t) (seek-requires t) (returns-3 t)

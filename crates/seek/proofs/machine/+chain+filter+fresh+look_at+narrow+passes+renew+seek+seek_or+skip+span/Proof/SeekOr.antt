@@ -4,8 +4,8 @@ use borrow.Author.Needs.{needs}
 use native.Mathlib.Omega.{arith}
 use Rattle.seek.proofs.fronts.better.Reads as better-reads
 use Rattle.seek.proofs.fronts.none.Reads as none-reads
-use Rattle.seek.proofs.table.next_of.Reads as next-of-reads
-use Rattle.seek.proofs.table.stop_of.Reads as stop-of-reads
+use Rattle.nodes.proofs.next_of.Reads as next-of-reads
+use Rattle.nodes.proofs.stop_of.Reads as stop-of-reads
 use Rattle.seek.proofs.machine.seek.Reads as seek
 use Rattle.seek.proofs.machine.seek_or.Reads as seek-or
 use Rattle.seek.proofs.machine.+chain+filter+fresh+look_at+narrow+passes+renew+seek+seek_or+skip+span.Lts-seek_or as lts
@@ -26,10 +26,10 @@ loop-holds : (t : ℕ) → lts.Need-loop-holds (R t) (seek-or-at t) seek-or.Post
 loop-holds t c = (or-start (omega (arith, c .before .before .before .before .pre .1)) (c .none .ensures), omega arith)
 
 loop-again : (t : ℕ) → lts.Need-loop-again (R t) (seek-or-at t) seek-or.Post Inv-loop μ-loop
-loop-again t c = (or-turn (omega (arith, c .before .before .before .before .before .before .before .before .before .before .pre .1)) (c .before .before .before .before .before .loop .inv .0) (omega (arith, c .before .before .before .before .before .before .before .stop-of .ensures .1)) (c .before .before .seek .ensures) (c .before .better .ensures) (c .next-of .ensures .1), omega arith)
+loop-again t c = (or-turn (omega (arith, c .before .before .before .before .before .before .before .before .before .before .pre .1)) (c .before .before .before .before .before .loop .inv .0) (omega (arith, c .before .before .before .before .before .before .before .stop-of .ensures .1)) (c .before .before .seek .ensures) (c .before .better .ensures) (c .next-of .ensures .1), omega (arith, c .next-of .ensures .0 .0 (omega arith)))
 
 returns : (t : ℕ) → lts.Need-returns (R t) (seek-or-at t) seek-or.Post Inv-loop μ-loop
 returns t c = λ k. or-end (c .before .loop .inv .0) (omega (arith, c .before .before .before .stop-of .ensures .1)) k
 
 pub proved : {M : Type 1} (t : ℕ) → lts.Closed (R t) (seek-or-at t) seek-or.Post M
-proved t = lts.spec (R t) (seek-or-at t) seek-or.Post Inv-loop μ-loop (λ c κs. search needs) (λ c. search needs) (λ c κs. search needs) (loop-holds t) (λ c κs. search needs) (λ c κs. search needs) (λ c κs. search needs) (λ c. search needs) (loop-again t) (returns t)
+proved t = lts.spec (R t) (seek-or-at t) seek-or.Post Inv-loop μ-loop (λ c κs. search needs) (λ c. search needs) (λ c κs. search needs) (loop-holds t) (λ c κs. search needs) (λ c κs. search needs) (λ c κs. search needs) (λ c. omega (arith, c .next-of .ensures .0 .0 (omega arith))) (loop-again t) (returns t)

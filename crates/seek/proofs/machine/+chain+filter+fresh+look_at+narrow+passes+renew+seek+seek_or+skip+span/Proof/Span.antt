@@ -6,8 +6,8 @@ use Rattle.seek.proofs.fronts.least.Reads as least-reads
 use Rattle.seek.proofs.fronts.look_of.Reads as look-of-reads
 use Rattle.seek.proofs.fronts.most.Reads as most-reads
 use Rattle.seek.proofs.fronts.no_look.Reads as no-look-reads
-use Rattle.seek.proofs.table.next_of.Reads as next-of-reads
-use Rattle.seek.proofs.table.stop_of.Reads as stop-of-reads
+use Rattle.nodes.proofs.next_of.Reads as next-of-reads
+use Rattle.nodes.proofs.stop_of.Reads as stop-of-reads
 use Rattle.seek.proofs.machine.seek.Reads as seek
 use Rattle.seek.proofs.machine.span.Reads as span
 use Rattle.seek.proofs.machine.+chain+filter+fresh+look_at+narrow+passes+renew+seek+seek_or+skip+span.Lts-span as lts
@@ -31,10 +31,10 @@ returns : (t : ℕ) → lts.Need-returns (R t) (span-at t) span.Post Inv-loop μ
 returns t c = λ k. span-gone (c .before .before .before .before .before .before .before .before .before .before .pre .1 .0) (c .before .before .before .before .before .before .loop .inv .0) (omega (arith, c .before .before .before .before .before .before .before .stop-of .ensures .1)) (c .before .before .before .seek .ensures) (c .before .if1 .taken) (c .no-look .ensures) k
 
 loop-again : (t : ℕ) → lts.Need-loop-again (R t) (span-at t) span.Post Inv-loop μ-loop
-loop-again t c = (span-turn (c .before .before .before .before .before .before .before .before .before .before .before .before .pre .1 .0) (c .before .before .before .before .before .before .before .before .loop .inv .0) (omega (arith, c .before .before .before .before .before .before .before .before .before .stop-of .ensures .1)) (c .before .before .before .before .before .seek .ensures) (c .before .before .before .if1 .left) (c .before .before .least .ensures) (c .before .most .ensures) (c .next-of .ensures .1), omega arith)
+loop-again t c = (span-turn (c .before .before .before .before .before .before .before .before .before .before .before .before .pre .1 .0) (c .before .before .before .before .before .before .before .before .loop .inv .0) (omega (arith, c .before .before .before .before .before .before .before .before .before .stop-of .ensures .1)) (c .before .before .before .before .before .seek .ensures) (c .before .before .before .if1 .left) (c .before .before .least .ensures) (c .before .most .ensures) (c .next-of .ensures .1), omega (arith, c .next-of .ensures .0 .0 (omega arith)))
 
 returns-2 : (t : ℕ) → lts.Need-returns-2 (R t) (span-at t) span.Post Inv-loop μ-loop
 returns-2 t c = λ k. span-end (c .before .before .loop .inv .0) (omega (arith, c .before .before .before .stop-of .ensures .1)) (c .look-of .ensures) k
 
 pub proved : {M : Type 1} (t : ℕ) → lts.Closed (R t) (span-at t) span.Post M
-proved t = lts.spec (R t) (span-at t) span.Post Inv-loop μ-loop (λ c κs. search needs) (λ c. search needs) (loop-holds t) (λ c κs. search needs) (λ c κs. search needs) (returns t) (λ c κs. search needs) (λ c κs. search needs) (λ c κs. search needs) (λ c. search needs) (loop-again t) (λ c κs. search needs) (returns-2 t)
+proved t = lts.spec (R t) (span-at t) span.Post Inv-loop μ-loop (λ c κs. search needs) (λ c. search needs) (loop-holds t) (λ c κs. search needs) (λ c κs. search needs) (returns t) (λ c κs. search needs) (λ c κs. search needs) (λ c κs. search needs) (λ c. omega (arith, c .next-of .ensures .0 .0 (omega arith))) (loop-again t) (λ c κs. search needs) (returns-2 t)

@@ -1,0 +1,3 @@
+pub mod FoldLeaf
+pub mod FoldLaws
+pub mod FoldSteps

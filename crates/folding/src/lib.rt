@@ -1,0 +1,147 @@
+// A table folded over rows of marks: an `or` of rows alone becomes one row, and so does a `max` of a row, node by node from the last to the first.
+// rows and words are as `seek` has them.
+use nodes::next_of;
+use nodes::stop_of;
+ghost use mathlib.Core.Path.{_≡_};
+ghost use mathlib.Core.List.{[]};
+ghost use Prim.Native.Nat.{_+_, _<_, _≤_};
+ghost use Rattle.stretches.specs.Table.{operandNumbers};
+ghost use Rattle.marks.specs.Row.{withRow};
+ghost use Rattle.folding.specs.Fold.{folding, rowBefore, rowsBefore, withLeaf, foldOr, maxFolded, foldNode, folded, unitedAll};
+
+// Whether node v is a row of this width that ends at or before place `free`.
+fn is_row(rows: &[usize; 128], width: usize, free: usize, v: usize) -> bool
+    requires { ⌜ v < 32 ⌝ }
+    ensures { λ r. ⌜ r ≡ rowBefore (now (rows .entry)) width free v ⌝ }
+{
+    if rows[v] != 16 {
+        return false;
+    }
+    if rows[96 + v] != width {
+        return false;
+    }
+    if free < width {
+        return false;
+    }
+    rows[64 + v] <= free - width
+}
+
+// Whether all of v's operands are.
+fn all_rows(rows: &[usize; 128], width: usize, free: usize, v: usize) -> bool
+    requires { ⌜ v < 32 ⌝ }
+    ensures { λ r. ⌜ r ≡ rowsBefore (now (rows .entry)) width free (operandNumbers (now (rows .entry)) v) ⌝ }
+{
+    let stop = stop_of(rows, v);
+    let mut c = v + 1;
+    while c < stop {
+        if !is_row(rows, width, free, c) {
+            return false;
+        }
+        c = next_of(rows, c);
+    }
+    true
+}
+
+fn clear(words: &mut [u64], to: usize, width: usize)
+    requires { do ⌜ to + width ≤ (← ⟦words.len()⟧) ⌝ }
+    ensures { λ _. ⌜ now (words .exit) ≡ withRow (now (words .entry)) to width [] ⌝ }
+{
+    let mut k = 0;
+    while k < width {
+        words[to + k] = 0;
+        k += 1;
+    }
+}
+
+// Unites the row from place `to` on with the rows of v's operands.
+fn unite_all(rows: &[usize; 128], words: &mut [u64], to: usize, width: usize, v: usize)
+    requires { ⌜ v < 32 ⌝ }
+    ensures { λ _. ⌜ now (words .exit) ≡ unitedAll (now (rows .entry)) (now (words .entry)) to width (operandNumbers (now (rows .entry)) v) ⌝ }
+{
+    let stop = stop_of(rows, v);
+    let mut u = v + 1;
+    while u < stop {
+        marks::unite(words, to, rows[64 + u], width);
+        u = next_of(rows, u);
+    }
+}
+
+fn put_row(rows: &mut [usize; 128], v: usize, at: usize, width: usize)
+    requires { ⌜ v < 32 ⌝ }
+    ensures { λ _. ⌜ now (rows .exit) ≡ withLeaf (now (rows .entry)) v at width ⌝ }
+{
+    rows[v] = 16;
+    rows[64 + v] = at;
+    rows[96 + v] = width;
+}
+
+// `or`: the place behind the last row in use.
+fn fold_or(rows: &mut [usize; 128], words: &mut [u64], width: usize, free: usize, v: usize) -> usize
+    requires { ⌜ v < 32 ⌝ }
+    ensures { λ r. ⌜ folding (now (rows .exit)) (now (words .exit)) r ≡ foldOr width v (folding (now (rows .entry)) (now (words .entry)) free) ⌝ }
+{
+    if !marks::inside(words.len(), free, width) {
+        return free;
+    }
+    if !all_rows(rows, width, free, v) {
+        return free;
+    }
+    clear(words, free, width);
+    unite_all(rows, words, free, width, v);
+    put_row(rows, v, free, width);
+    free + width
+}
+
+fn fold_max(rows: &mut [usize; 128], width: usize, free: usize, v: usize)
+    requires { ⌜ v < 32 ⌝ }
+    ensures { λ _. ⌜ now (rows .exit) ≡ maxFolded (now (rows .entry)) width free v ⌝ }
+{
+    let c = v + 1;
+    if stop_of(rows, v) <= c {
+        return;
+    }
+    if !is_row(rows, width, free, c) {
+        return;
+    }
+    if rows[64 + v] < 1 {
+        return;
+    }
+    let at = rows[64 + c];
+    put_row(rows, v, at, width);
+}
+
+// Node v: the place behind the last row in use.
+fn fold_node(
+    rows: &mut [usize; 128],
+    words: &mut [u64],
+    width: usize,
+    free: usize,
+    v: usize,
+) -> usize
+    requires { ⌜ v < 32 ⌝ }
+    ensures { λ r. ⌜ folding (now (rows .exit)) (now (words .exit)) r ≡ foldNode width v (folding (now (rows .entry)) (now (words .entry)) free) ⌝ }
+{
+    let kind = rows[v];
+    if kind == 1 {
+        return fold_or(rows, words, width, free, v);
+    }
+    if kind == 6 {
+        fold_max(rows, width, free, v);
+        return free;
+    }
+    free
+}
+
+// Makes one row of each `or` of rows of `width` words, and of each `max` of one with a bound of at least 1. New rows lie from place `free` on, as far as the
+// words have room. Where every row of the table ends at or before `free`, no node's list changes.
+pub fn fold(rows: &mut [usize; 128], words: &mut [u64], width: usize, free: usize)
+    ensures { λ _. ⌜ now (rows .exit) ≡ folded width 32 (folding (now (rows .entry)) (now (words .entry)) free) .rows ⌝ }
+    ensures { λ _. ⌜ now (words .exit) ≡ folded width 32 (folding (now (rows .entry)) (now (words .entry)) free) .words ⌝ }
+{
+    let mut place = free;
+    let mut v = 32;
+    while 0 < v {
+        v -= 1;
+        place = fold_node(rows, words, width, place, v);
+    }
+}
