@@ -4,11 +4,12 @@ use mathlib.Core.Path.{_≡_, sym, ap₂, subst, subst₂, _∙_}
 use mathlib.Core.List.{List, _++_}
 use lib.ListN.{length, take}
 use native.Mathlib.Omega.{arith}
-use Rattle.sheet.specs.declared.input.Taken.{Taken}
-use Rattle.sheet.specs.Input.{Keeps}
-use Rattle.sheet.specs.Sheet.{printed, Lays}
-use Rattle.sheet.proofs.Keeping.{keeps-more}
-use Rattle.sheet.proofs.Placing.{laid-all}
+use Rattle.input.specs.declared.Taken.{Taken}
+use Rattle.input.specs.Input.{Keeps}
+use Rattle.print.specs.Print.{Lays}
+use Rattle.sheet.specs.Sheet.{printed}
+use Rattle.input.proofs.Keeping.{keeps-more}
+use Rattle.print.proofs.Placing.{laid-all}
 use Rattle.sheet.proofs.Sheets.{keeps-sheet, short-sheet}
 use Rattle.find.specs.declared.Turn.{Turn}
 use Rattle.find.specs.declared.Turn.the-variants as turn

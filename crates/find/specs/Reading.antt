@@ -4,8 +4,8 @@ use Prim.Native.Nat.{ℕ, _≤_}
 use mathlib.Core.Path.{_≡_}
 use mathlib.Core.List.{List}
 use lib.ListN.{length}
-use Rattle.sheet.specs.declared.input.Taken.{Taken}
-use Rattle.sheet.specs.Input.{TakenIn, Keeps}
+use Rattle.input.specs.declared.Taken.{Taken}
+use Rattle.input.specs.Input.{TakenIn, Keeps}
 use Rattle.sheet.specs.Sheet.{printedOf}
 use Rattle.find.specs.declared.Turn.{Turn}
 use Rattle.find.specs.declared.Turn.the-variants as turn

@@ -1,7 +1,7 @@
 // The finder as a program: reads a pattern, a line feed and a log from standard input, and prints the sheet.
+use input::Taken;
 use libc::STDIN_FILENO;
 use libc::STDOUT_FILENO;
-use sheet::Taken;
 ghost use mathlib.Core.Path.{_≡_};
 ghost use lib.ListN.{length, take};
 ghost use Rattle.find.specs.Reading.{Turned, Gathered, Held, Prints};
@@ -39,7 +39,7 @@ fn read_piece(t: Taken, pattern: &mut [u8], log: &mut [u8]) -> Turn
         return Turn::End;
     }
     let n = io::count(got, &piece);
-    Turn::More(sheet::take_piece(&piece[..n], t, pattern, log))
+    Turn::More(input::take_piece(&piece[..n], t, pattern, log))
 }
 
 // Reads standard input to its end. The turns are counted down from a number that no run uses up.

@@ -8,7 +8,8 @@ use Rattle.pattern.specs.Reading.{build, outcomeOf}
 use Rattle.pattern.specs.Decimal.{decimal, digitsOf}
 use Rattle.meaning.specs.Refusals.{refusal}
 use Rattle.meaning.specs.Finding.{listOf}
-use Rattle.sheet.specs.Sheet.{field, rows, foundSheet, refusedSheet, printed, printedOf}
+use Rattle.print.specs.Print.{field, rows, foundSheet, refusedSheet}
+use Rattle.sheet.specs.Sheet.{printed, printedOf}
 
 -- the paper's input and its sheet
 example-whole : printedOf (116 ∷ 104 ∷ 101 ∷ 110 ∷ 44 ∷ 50 ∷ 44 ∷ 101 ∷ 118 ∷ 44 ∷ 55 ∷ 44 ∷ 48 ∷ 44 ∷ 101 ∷ 118 ∷ 44 ∷ 57 ∷ 44 ∷ 48 ∷ 10 ∷ 49 ∷ 44 ∷ 52 ∷ 44 ∷ 55 ∷ 44 ∷ 51 ∷ 44 ∷ 54 ∷ 10 ∷ 50 ∷ 44 ∷ 52 ∷ 44 ∷ 49 ∷ 50 ∷ 44 ∷ 50 ∷ 48 ∷ 44 ∷ 51 ∷ 44 ∷ 48 ∷ 10 ∷ 111 ∷ 111 ∷ 112 ∷ 115 ∷ 10 ∷ 49 ∷ 44 ∷ 52 ∷ 44 ∷ 57 ∷ 44 ∷ 48 ∷ 44 ∷ 48 ∷ 10 ∷ 49 ∷ 44 ∷ 53 ∷ 44 ∷ 57 ∷ 44 ∷ 48 ∷ 44 ∷ 48 ∷ 10 ∷ []) ≡ 70 ∷ 44 ∷ 53 ∷ 44 ∷ 49 ∷ 44 ∷ 49 ∷ 10 ∷ 48 ∷ 44 ∷ 51 ∷ 10 ∷ []

@@ -8,7 +8,7 @@ use mathlib.Core.List.{List, [], _∷_, _++_}
 use lib.ListN.{length, take, drop, length-append, length-take}
 use lib.Seq.{take-all}
 use lib.Dec.{eqb}
-use borrow.Author.Tests.{eqb-true, ne-eqb}
+use borrow.Author.Tests.{eqb-true, eq-eqb, ne-eqb}
 use native.Mathlib.Omega.{arith}
 use Rattle.stretches.specs.Stretch.{Stretch}
 use Rattle.stretches.proofs.Answers.{Sound}
@@ -27,15 +27,27 @@ use Rattle.meaning.proofs.Run.{says-length}
 use Rattle.stretches.proofs.Filling.{done-all, room-done}
 use Rattle.meaning.proofs.Finding.{long-log, bad-pattern, accepted-list, accepted-number}
 use Rattle.meaning.proofs.Bounds.{sized}
+use Rattle.marking.specs.declared.pass.Counted.{Counted}
 use Rattle.marking.specs.Rows.{counted}
-use Rattle.sheet.specs.declared.input.Taken.{Taken}
-use Rattle.sheet.specs.Input.{patternOf, logOf, Keeps}
-use Rattle.sheet.specs.Sheet.{field, rows, foundSheet, refusedSheet, shown, sheetOf, printed, printedOf, Lays}
-use Rattle.sheet.proofs.Decimals.{length-below}
-use Rattle.sheet.proofs.Printed.{length-field, shown-flat}
-use Rattle.sheet.proofs.Written.{length-found, length-refused}
+use Rattle.input.specs.declared.Taken.{Taken}
+use Rattle.input.specs.Input.{patternOf, logOf, Keeps}
+use Rattle.print.specs.Print.{field, rows, foundSheet, refusedSheet, shown, Lays}
+use Rattle.print.proofs.Decimals.{length-below}
+use Rattle.print.proofs.Printed.{length-field, shown-flat}
+use Rattle.print.proofs.Written.{length-found, length-refused}
+use Rattle.sheet.specs.Sheet.{sheetOf, printed, printedOf}
 
 -- ── From a filling call ──
+
+-- the sheet of a filling call, by whether it was refused
+pub sheet-refused : (f : Filled) (log cells : List ℕ) → (f .number ≡ 0 → ⊥) → refusedSheet (f .number) (f .place) ≡ sheetOf f log cells
+unfolding sheetOf
+sheet-refused f log cells n = rw (ne-eqb (f .number) 0 n)
+
+pub sheet-found : (f : Filled) (log cells : List ℕ) (c : Counted) → f .number ≡ 0 → c ≡ counted log
+    → foundSheet (c .lines) (c .damaged) (shown (f .count) cells) ≡ sheetOf f log cells
+unfolding sheetOf
+sheet-found f log cells c e k = rw (eq-eqb (f .number) 0 e, k)
 
 -- with two cells for each answer that there can be, what the filling call from number 0 returns and leaves has the sheet of the pattern and the log
 pub filled-sheet : (pattern log cells : List ℕ) → 122880 ≤ length cells

@@ -1,40 +1,15 @@
--- The printed sheet, byte by byte, and what writing it into a lent buffer leaves: the paper's "The printed sheet".
+-- The sheet of what a filling call left, of a pattern and a log, and of an input: the paper's "The printed sheet".
 -- Assumes nothing.
 use Prim.Native.Nat.{ℕ}
-use mathlib.Core.Path.{_≡_, refl}
 use mathlib.Core.Bool.{cond}
-use mathlib.Core.List.{List, [], _∷_, _++_}
-use lib.ListN.{length, take, drop}
-use lib.Dec.{leb, eqb}
-use Rattle.stretches.specs.Stretch.{Stretch, st}
+use mathlib.Core.List.{List}
+use lib.Dec.{eqb}
 use Rattle.marking.specs.Rows.{counted}
-use Rattle.pattern.specs.Decimal.{digitsOf, decimal}
 use Rattle.meaning.specs.declared.Filled.{Filled}
-use Rattle.stretches.specs.Lent.{pairs}
 use Rattle.meaning.specs.Refusals.{refusal}
 use Rattle.meaning.specs.Finding.{listOf}
-use Rattle.sheet.specs.Input.{patternOf, logOf}
-
--- a number and the byte that ends it: 44, a comma; 10, a line feed
-unfoldable pub field : ℕ → ℕ → List ℕ
-field n mark = decimal n ++ (mark ∷ [])
-
--- then each `start,end`; a line feed ends each printed line
-unfoldable pub rows : List Stretch → List ℕ
-rows [] = []
-rows (x ∷ xs) = field (x .start) 44 ++ (field (x .end) 10 ++ rows xs)
-
--- `F,lines,damaged,answers`, then each `start,end`
-unfoldable pub foundSheet : ℕ → ℕ → List Stretch → List ℕ
-foundSheet lines damaged answers = 70 ∷ 44 ∷ (field lines 44 ++ (field damaged 44 ++ (field (length answers) 10 ++ rows answers)))
-
--- or only `R,number,place`
-unfoldable pub refusedSheet : ℕ → ℕ → List ℕ
-refusedSheet number place = 82 ∷ 44 ∷ (field number 44 ++ field place 10)
-
--- the first `count` stretches that the cells hold, start then end; all of them where they are fewer
-abbrev pub shown : ℕ → List ℕ → List Stretch
-shown count cells = take count (pairs cells)
+use Rattle.input.specs.Input.{patternOf, logOf}
+use Rattle.print.specs.Print.{foundSheet, refusedSheet, shown}
 
 -- the sheet of what a filling call from number 0 returned and left in the cells
 unfoldable pub sheetOf : Filled → List ℕ → List ℕ → List ℕ
@@ -50,25 +25,3 @@ printed pattern log =
 -- the sheet of an input: the pattern up to the first line feed (or the end), then the log
 abbrev pub printedOf : List ℕ → List ℕ
 printedOf input = printed (patternOf input) (logOf input)
-
--- the buffer afterwards: the sheet where it fits, and what was behind it; else nothing is written
-unfoldable pub laid : List ℕ → List ℕ → List ℕ
-laid sheet out = cond (leb (length sheet) (length out)) (sheet ++ drop (length sheet) out) out
-
--- the number of bytes written: the sheet's where it fits, else 0
-unfoldable pub laidLength : List ℕ → List ℕ → ℕ
-laidLength sheet out = cond (leb (length sheet) (length out)) (length sheet) 0
-
--- a sheet is written into `out`: r bytes, and these stand there afterwards
-abbrev pub Lays : List ℕ → List ℕ → ℕ → List ℕ → Type 0
-Lays sheet out r out′ = (r ≡ laidLength sheet out) × (out′ ≡ laid sheet out)
-
--- the paper's sheet: F,5,1,1 and 0,3
-example-found : foundSheet 5 1 (st 0 3 ∷ []) ≡ 70 ∷ 44 ∷ 53 ∷ 44 ∷ 49 ∷ 44 ∷ 49 ∷ 10 ∷ 48 ∷ 44 ∷ 51 ∷ 10 ∷ []
-unfolding foundSheet field rows decimal digitsOf
-example-found = refl
-
--- R,3,4
-example-refused : refusedSheet 3 4 ≡ 82 ∷ 44 ∷ 51 ∷ 44 ∷ 52 ∷ 10 ∷ []
-unfolding refusedSheet field decimal digitsOf
-example-refused = refl

@@ -4,8 +4,8 @@ use Prim.Native.Nat.{ℕ}
 use mathlib.Core.List.{List, []}
 use mathlib.Core.Path.{_≡_, refl, _∙_}
 use lib.ListN.{length}
-use Rattle.sheet.specs.Input.{Keeps}
-use Rattle.sheet.proofs.Keeping.{keeps-start}
+use Rattle.input.specs.Input.{Keeps}
+use Rattle.input.proofs.Keeping.{keeps-start}
 use Rattle.find.proofs.Turns.{turned-more, turned-end}
 use borrow.Author.Needs.{needs}
 use Rattle.find.proofs.read_all.Statement.{statement}

@@ -3,8 +3,8 @@
 use mathlib.Core.Path.{subst}
 use mathlib.Core.List.{List}
 use Prim.Native.Nat.{ℕ}
-use Rattle.sheet.specs.Sheet.{Lays}
-use Rattle.sheet.proofs.Written.{sheet-refused, sheet-found}
+use Rattle.print.specs.Print.{Lays}
+use Rattle.sheet.proofs.Sheets.{sheet-refused, sheet-found}
 use borrow.Author.Needs.{needs}
 use Rattle.sheet.proofs.write_sheet.Statement.{statement}
 use Rattle.sheet.proofs.write_sheet.Tie as tie

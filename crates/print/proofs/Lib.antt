@@ -1,0 +1,4 @@
+pub mod Decimals
+pub mod Placing
+pub mod Printed
+pub mod Written
