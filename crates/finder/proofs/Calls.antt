@@ -38,9 +38,8 @@ use Rattle.meaning.proofs.Table.{table-answers}
 use Rattle.walk.specs.declared.Walked.{Walked}
 use Rattle.seek.specs.Source.{source, listOf as tableList, Good}
 use Rattle.walk.specs.Filling.{Filling, FillAll}
-use Rattle.marking.specs.Rows.{widthOf}
-use Rattle.marking.specs.Plan.{prepared}
-use Rattle.marking.proofs.Planning.{room-enough, prepared-lists, prepared-good}
+use Rattle.plan.specs.Plan.{widthOf, prepared}
+use Rattle.plan.proofs.Planning.{room-enough, prepared-lists, prepared-good}
 use Rattle.finder.specs.declared.Finder.{Finder}
 use Rattle.finder.specs.declared.Readied.{Readied}
 use Rattle.finder.specs.Promises.{rowsIn, readied, listIn, among, waits, handed, none, offered, lineAfter, refilled, stepOver}

@@ -10,7 +10,7 @@ ghost use Rattle.stretches.specs.Filling.{filled};
 ghost use Rattle.pattern.specs.Answer.{numberOf, placeOf};
 ghost use Rattle.meaning.specs.Meaning.{tableIn};
 ghost use Rattle.meaning.specs.Finding.{listOf, filling};
-ghost use Rattle.marking.specs.Rows.{widthOf};
+ghost use Rattle.plan.specs.Plan.{widthOf};
 ghost use Rattle.walk.specs.Filling.{Filling};
 ghost use Rattle.finder.specs.Promises.{readied, opened, listIn, among, handed, lineAfter, refilled, stepped};
 
@@ -119,7 +119,7 @@ fn fill_with(
     requires { ⌜ (length (now rows) ≡ 128) × (width ≡ widthOf (now log)) × (width ≤ 960) × (32 * width ≤ length (now words)) ⌝ }
     ensures { λ r. ⌜ Filling (onward (tableIn (now (rows .entry)) (now (log .entry))) line) from (now (cells .entry)) r (now (cells .exit)) ⌝ }
 {
-    let table = marking::prepare(rows, log, width, words);
+    let table = plan::prepare(rows, log, width, words);
     let items = [0u32; 1];
     walk::fill(&table, words, &items[..0], cells, line, from)
 }
@@ -167,7 +167,7 @@ fn fill_from(rows: &[usize; 128], log: &[u8], cells: &mut [u32], line: u32, from
             more: false,
         };
     }
-    let width = marking::width(log);
+    let width = plan::width(log);
     if width <= 128 {
         return fill_small(rows, log, width, cells, line, from);
     }

@@ -1,6 +1,4 @@
--- The laws of gathering leaves and marking lines.
-pub mod Gathering
+-- The laws of marking lines.
 pub mod Asking
 pub mod Marking
 pub mod Passing
-pub mod Planning

@@ -1,4 +1,2 @@
-pub mod Leaves
 pub mod Rows
-pub mod Plan
 pub mod Steps

@@ -1,0 +1,2 @@
+-- The laws of gathering leaves.
+pub mod Gathering

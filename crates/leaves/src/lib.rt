@@ -1,0 +1,84 @@
+// The different leaves of tables, numbered in the order in which they first come.
+//
+// rows: a table of nodes in four columns of 32, as `seek` has it; its leaves are of kind 16, `ev` with code and lane, and of kind 17, `fr` with frame and lane.
+// leaves: in three columns of 64, the kind and the two numbers of each leaf.
+ghost use mathlib.Core.Path.{_≡_};
+ghost use Prim.Native.Nat.{_≤_, _<_};
+ghost use Rattle.leaves.specs.Leaves.{held, isLeaf, numberIn, are, added, withNode, gathered};
+
+// How many leaves are held, of so many: there is room for 64.
+fn held_of(n: usize) -> usize
+    ensures { λ r. ⌜ (r ≡ held n) × (r ≤ 64) ⌝ }
+{
+    if n < 64 { n } else { 64 }
+}
+
+// Whether leaf r has these numbers.
+fn is_leaf(leaves: &[usize; 192], r: usize, kind: usize, first: usize, second: usize) -> bool
+    requires { ⌜ r < 64 ⌝ }
+    ensures { λ x. ⌜ x ≡ isLeaf (now (leaves .entry)) r kind first second ⌝ }
+{
+    if leaves[r] != kind {
+        return false;
+    }
+    if leaves[64 + r] != first {
+        return false;
+    }
+    leaves[128 + r] == second
+}
+
+// The number of the first of n leaves that has these numbers; n where none has. More than 64 leaves are taken for 64.
+pub fn find(leaves: &[usize; 192], n: usize, kind: usize, first: usize, second: usize) -> usize
+    ensures { λ r. ⌜ (r ≡ numberIn (now (leaves .entry)) (held n) kind first second) × (r ≤ 64) ⌝ }
+{
+    let m = held_of(n);
+    let mut r = 0;
+    while r < m {
+        if is_leaf(leaves, r, kind, first, second) {
+            return r;
+        }
+        r += 1;
+    }
+    m
+}
+
+// Adds a leaf to n others if it is not among them and there is room: how many there are then.
+fn add(leaves: &mut [usize; 192], n: usize, kind: usize, first: usize, second: usize) -> usize
+    requires { ⌜ n ≤ 64 ⌝ }
+    ensures { λ r. ⌜ (are (now (leaves .exit)) r ≡ added (now (leaves .entry)) n kind first second) × (r ≤ 64) ⌝ }
+{
+    if find(leaves, n, kind, first, second) < n {
+        return n;
+    }
+    if 64 <= n {
+        return n;
+    }
+    leaves[n] = kind;
+    leaves[64 + n] = first;
+    leaves[128 + n] = second;
+    n + 1
+}
+
+// Adds node v's leaf, if it is one.
+fn add_node(rows: &[usize; 128], leaves: &mut [usize; 192], n: usize, v: usize) -> usize
+    requires { ⌜ (n ≤ 64) × (v < 32) ⌝ }
+    ensures { λ r. ⌜ (are (now (leaves .exit)) r ≡ withNode (now (rows .entry)) v (are (now (leaves .entry)) n)) × (r ≤ 64) ⌝ }
+{
+    if rows[v] < 16 {
+        return n;
+    }
+    add(leaves, n, rows[v], rows[64 + v], rows[96 + v])
+}
+
+// Adds to the first `known` leaves those of the table's nodes that are not among them, in the nodes' order: how many there are then.
+pub fn gather(rows: &[usize; 128], leaves: &mut [usize; 192], known: usize) -> usize
+    ensures { λ r. ⌜ are (now (leaves .exit)) r ≡ gathered (now (rows .entry)) (now (leaves .entry)) known ⌝ }
+{
+    let mut n = held_of(known);
+    let mut v = 0;
+    while v < 32 {
+        n = add_node(rows, leaves, n, v);
+        v += 1;
+    }
+    n
+}

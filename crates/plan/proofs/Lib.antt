@@ -1,0 +1,2 @@
+-- The laws of the table over the rows.
+pub mod Planning

@@ -1,0 +1,325 @@
+-- The machine's table has the lists of the pattern's table. Assumes nothing.
+use Prim.Native.Nat.{ℕ, zero, suc, _+_, _-_, _*_, _≤_, _<_}
+use mathlib.Core.Path.{_≡_, refl, sym, ap, ap₂, subst, _∙_}
+use mathlib.Core.Logic.{_⊎_, inl, inr}
+use mathlib.Core.Bool.{Bool, true, false, not, cond, _&&_}
+use mathlib.Core.List.{List, [], _∷_, _++_, map, append-assoc}
+use native.Mathlib.Omega.{arith}
+use native.Mathlib.Nat.{suc-mul, mul-le-mul-right, zero-add}
+use lib.ListN.{length, getD, take, drop, replicate, length-map}
+use lib.Seq.{take-at, drop-at, drop-drop}
+use lib.Dec.{leb, eqb}
+use borrow.Author.Tests.{le-leb, lt-leb, lt-ltb, leb-true, eqb-true, ne-eqb, not-true, not-false}
+use Rattle.basics.proofs.Basics.{cases, true-and, and-true, le-or-lt}
+use Rattle.stretches.specs.Stretch.{Stretch, st, Fine, marks}
+use Rattle.stretches.specs.Operators.{operatorOf, apply}
+use Rattle.stretches.specs.Table.{kindAt, sizeAt, firstAt, secondAt, Given, operandsOf, listAt}
+use Rattle.stretches.proofs.Fine.{fine-marks}
+use Rattle.stretches.proofs.Marks.{marks-clear}
+use Rattle.stretches.proofs.Table.{list-node, same-lists}
+use Rattle.marks.specs.Row.{flags, lies, row, packed}
+use Rattle.marks.proofs.Rows.{true-lies, row-words}
+use Rattle.marks.proofs.Packed.{length-packed, flags-packed-short}
+use Rattle.event_log.specs.declared.Line.{Line}
+use Rattle.event_log.specs.Reading.{says}
+use Rattle.event_log.specs.Leaf.{codeIs, frameIs}
+use Rattle.meaning.specs.Meaning.{hits, overTable}
+use Rattle.seek.specs.Source.{source, lent, ownList, given, listOf, Good}
+use Rattle.folding.specs.Fold.{Folding, folding, withLeaf, folded}
+use Rattle.seek.proofs.Nodes.{no-operator}
+use Rattle.folding.proofs.FoldLeaf.{Before, leaf-wide, leaf-kind, leaf-first, leaf-second, leaf-size, else-kind, else-first, else-second}
+use Rattle.folding.proofs.FoldLaws.{fold-lists, fold-good}
+use Rattle.leaves.specs.Leaves.{held, numberIn, Gathered, are, leavesOf}
+use Rattle.marking.specs.Rows.{leafHits, rowsFrom, fit, rowsThen, marked}
+use Rattle.plan.specs.Plan.{planNode, plannedTo, planned, prepared}
+use Rattle.leaves.proofs.Gathering.{leaf-few, leaf-found, leaf-is}
+use Rattle.marking.proofs.Marking.{then-length}
+
+-- ── The planned table ──
+
+-- a node's four numbers
+record Node : Type 0 where
+  kind : ℕ
+  size : ℕ
+  first : ℕ
+  second : ℕ
+
+abbrev nodeAt : List ℕ → ℕ → Node
+nodeAt t u = record { kind = kindAt t u; size = sizeAt t u; first = firstAt t u; second = secondAt t u }
+
+module _ (leaves : List ℕ) (n w : ℕ) where
+  -- the same node; a leaf is the row of its number
+  abbrev plannedNode : Node → Node
+  plannedNode x = cond (leb 16 (x .kind)) (record { kind = 16; size = x .size; first = numberIn leaves n (x .kind) (x .first) (x .second) * w; second = w }) x
+
+  module _ (t : List ℕ) (m : ℕ) (l : length t ≡ 128) (lm : m < 32) where
+    abbrev at : ℕ
+    at = numberIn leaves n (kindAt t m) (firstAt t m) (secondAt t m) * w
+
+    node-wide : length (planNode leaves n w m t) ≡ 128
+    node-wide = cases (leb 16 (kindAt t m)) (λ b. length (cond b (withLeaf t m at w) t) ≡ 128) (λ e. leaf-wide t m at w l lm) (λ e. l)
+
+    node-here : nodeAt (planNode leaves n w m t) m ≡ plannedNode (nodeAt t m)
+    node-here = cases (leb 16 (kindAt t m)) (λ b. nodeAt (cond b (withLeaf t m at w) t) m ≡ cond b (record { kind = 16; size = sizeAt t m; first = at; second = w }) (nodeAt t m))
+        (λ e i. record { kind = leaf-kind t m at w l lm i; size = leaf-size t m at w l lm m lm i; first = leaf-first t m at w l lm i; second = leaf-second t m at w l lm i }) (λ e. refl)
+
+    node-else : (u : ℕ) → u < 32 → (u ≡ m → ⊥) → nodeAt (planNode leaves n w m t) u ≡ nodeAt t u
+    node-else u lu d = cases (leb 16 (kindAt t m)) (λ b. nodeAt (cond b (withLeaf t m at w) t) u ≡ nodeAt t u)
+        (λ e i. record { kind = else-kind t m at w l lm u lu d i; size = leaf-size t m at w l lm u lu i; first = else-first t m at w l lm u lu d i; second = else-second t m at w l lm u lu d i }) (λ e. refl)
+
+  record Planned (rows t : List ℕ) (m : ℕ) : Type 0 where
+    wide : length t ≡ 128
+    done : (u : ℕ) → u < m → nodeAt t u ≡ plannedNode (nodeAt rows u)
+    rest : (u : ℕ) → u < 32 → m ≤ u → nodeAt t u ≡ nodeAt rows u
+
+  plans-to : (rows : List ℕ) → length rows ≡ 128 → (m : ℕ) → m ≤ 32 → Planned rows (plannedTo leaves n w rows m) m
+  unfolding plannedTo
+  plans-to rows l zero h = record { wide = l; done = λ u k. absurd (omega arith); rest = λ u k g. refl }
+  plans-to rows l (suc m) h = go (plannedTo leaves n w rows m) (plans-to rows l m (omega arith))
+    where
+      go : (t : List ℕ) → Planned rows t m → Planned rows (planNode leaves n w m t) (suc m)
+      go t p = record {
+        wide = node-wide t m (p .wide) (omega arith);
+        done = λ u k. by u k (le-or-lt m u);
+        rest = λ u k g. node-else t m (p .wide) (omega arith) u k (λ z. omega arith) ∙ p .rest u k (omega arith);
+      }
+        where
+          by : (u : ℕ) → u < suc m → (m ≤ u) ⊎ (u < m) → nodeAt (planNode leaves n w m t) u ≡ plannedNode (nodeAt rows u)
+          by u k (inl q) =
+              let z : u ≡ m = omega arith in
+              ap (nodeAt (planNode leaves n w m t)) z ∙ node-here t m (p .wide) (omega arith) ∙ ap plannedNode (p .rest m (omega arith) (omega arith) ∙ ap (nodeAt rows) (sym z))
+          by u k (inr q) = node-else t m (p .wide) (omega arith) u (omega arith) (λ z. omega arith) ∙ p .done u q
+
+-- ── The rows of the leaves ──
+
+-- row r of the marked words, from leaf s on
+row-from : (leaves : List ℕ) (ls : List Line) (w : ℕ) (after : List ℕ) (s n r : ℕ) → r < n → take w (drop (r * w) (rowsFrom leaves ls w s n ++ after)) ≡ packed w (map (leafHits leaves (s + r)) ls)
+unfolding rowsFrom
+row-from leaves ls w after s zero r h = absurd (omega arith)
+row-from leaves ls w after s (suc n) zero h =
+    let z : 0 * w ≡ 0 = omega arith in
+    let y : s ≡ s + 0 = omega arith in
+    let p = packed w (map (leafHits leaves s) ls) in
+    ap (λ (k : ℕ). take w (drop k ((p ++ rowsFrom leaves ls w (suc s) n) ++ after))) z ∙ ap (take w) (append-assoc p (rowsFrom leaves ls w (suc s) n) after)
+    ∙ take-at p (rowsFrom leaves ls w (suc s) n ++ after) w (length-packed w (map (leafHits leaves s) ls)) ∙ ap (λ (k : ℕ). packed w (map (leafHits leaves k) ls)) y
+row-from leaves ls w after s (suc n) (suc r) h =
+    let z : suc r * w ≡ w + r * w = omega (arith, suc-mul r w) in
+    let y : suc s + r ≡ s + suc r = omega arith in
+    let p = packed w (map (leafHits leaves s) ls) in
+    let rest = rowsFrom leaves ls w (suc s) n in
+    ap (λ (k : ℕ). take w (drop k ((p ++ rest) ++ after))) z ∙ ap (take w) (sym (drop-drop (r * w) w ((p ++ rest) ++ after)))
+    ∙ ap (λ (l : List ℕ). take w (drop (r * w) l)) (ap (drop w) (append-assoc p rest after) ∙ drop-at p (rest ++ after) w (length-packed w (map (leafHits leaves s) ls)))
+    ∙ row-from leaves ls w after (suc s) n r (omega arith) ∙ ap (λ (k : ℕ). packed w (map (leafHits leaves k) ls)) y
+
+-- ── The lists ──
+
+no-lines : {A : Type 0} (f : A → Bool) → ((x : A) → f x ≡ false) → (p : ℕ) (xs : List A) → marks p (map f xs) ≡ []
+no-lines f h p [] = refl
+no-lines f h p (x ∷ xs) = ap (λ b. cond b (st p p ∷ marks (suc p) (map f xs)) (marks (suc p) (map f xs))) (h x) ∙ no-lines f h (suc p) xs
+
+-- over n leaves among which all of the table's are found
+module _ (rows leaves : List ℕ) (n : ℕ) (ls : List Line) (w : ℕ) (words : List ℕ) (wide : length rows ≡ 128) (narrow : w ≤ 1024) (lines : length ls ≤ 64 * w) (enough : n * w ≤ length words)
+    (found : (v : ℕ) → v < 32 → 16 ≤ kindAt rows v → numberIn leaves n (kindAt rows v) (firstAt rows v) (secondAt rows v) < n) where
+  abbrev t : List ℕ
+  t = planned leaves n w rows
+
+  abbrev marked-words : List ℕ
+  marked-words = rowsThen leaves n ls w words
+
+  plan : Planned leaves n w rows t 32
+  plan = plans-to leaves n w rows wide 32 (omega arith)
+
+  abbrev old : Given
+  old = overTable rows ls
+
+  abbrev new : Given
+  new = given (source marked-words []) t
+
+  module _ (v : ℕ) (lv : v < 32) where
+    abbrev k : ℕ
+    k = kindAt rows v
+
+    abbrev a : ℕ
+    a = firstAt rows v
+
+    abbrev b : ℕ
+    b = secondAt rows v
+
+    -- a leaf's number, and the leaf of that number
+    module _ (h : 16 ≤ k) where
+      abbrev r : ℕ
+      r = numberIn leaves n k a b
+
+      below : r < n
+      below = found v lv h
+
+      node : nodeAt t v ≡ record { kind = 16; size = sizeAt rows v; first = r * w; second = w }
+      node = plan .done v lv ∙ ap (λ c. cond c (record { kind = 16; size = sizeAt rows v; first = r * w; second = w }) (nodeAt rows v)) (le-leb 16 k h)
+
+      numbers : (getD leaves r 0 ≡ k) × (getD leaves (64 + r) 0 ≡ a) × (getD leaves (128 + r) 0 ≡ b)
+      numbers =
+          let e = and-true (eqb (getD leaves r 0) k) (eqb (getD leaves (64 + r) 0) a && eqb (getD leaves (128 + r) 0) b) (leaf-is leaves k a b n below) in
+          let f = and-true (eqb (getD leaves (64 + r) 0) a) (eqb (getD leaves (128 + r) 0) b) (e .1) in
+          (eqb-true (getD leaves r 0) k (e .0), eqb-true (getD leaves (64 + r) 0) a (f .0), eqb-true (getD leaves (128 + r) 0) b (f .1))
+
+      leaf-row : marks 0 (row marked-words (r * w) w) ≡ old .own v
+      leaf-row =
+          let hit = leafHits leaves r in
+          let e = length-map ls hit in
+          let place : r * w + w ≤ n * w = omega (arith, suc-mul r w, mul-le-mul-right w below) in
+          let inside : lies (length marked-words) (r * w) w ≡ true = true-lies (length marked-words) (r * w) w (omega (arith, then-length leaves n w words ls enough)) (omega arith) in
+          ap (marks 0) (row-words marked-words (r * w) w inside ∙ ap flags (row-from leaves ls w (drop (n * w) words) 0 n r below)
+          ∙ ap (λ (i : ℕ). flags (packed w (map (leafHits leaves i) ls))) (zero-add r) ∙ flags-packed-short w (map hit ls) (omega arith))
+          ∙ marks-clear 0 (map hit ls) (64 * w - length (map hit ls))
+          ∙ ap₂ (λ (x y : ℕ). marks 0 (map (hits x y (getD leaves (128 + r) 0)) ls)) (numbers .0) (numbers .1) ∙ ap (λ (z : ℕ). marks 0 (map (hits k a z) ls)) (numbers .2)
+
+      leaf-own : new .own v ≡ old .own v
+      leaf-own = ap (λ (x : Node). ownList (source marked-words []) (x .kind) (x .first) (x .second)) node ∙ leaf-row
+
+      leaf-list : apply (operatorOf (new .measure) (kindAt t v) (firstAt t v)) (new .own v) (operandsOf old rows v) ≡ listAt old rows v
+      leaf-list =
+          ap (λ (x : Node). apply (operatorOf (new .measure) (x .kind) (x .first)) (new .own v) (operandsOf old rows v)) node ∙ leaf-own
+          ∙ sym (list-node old rows v lv ∙ ap (λ o. apply o (old .own v) (operandsOf old rows v)) (no-operator (old .measure) k a (omega arith)))
+
+    -- another node
+    module _ (h : k < 16) where
+      node-other : nodeAt t v ≡ nodeAt rows v
+      node-other = plan .done v lv ∙ ap (λ c. cond c (record { kind = 16; size = sizeAt rows v; first = numberIn leaves n k a b * w; second = w }) (nodeAt rows v)) (lt-leb 16 k h)
+
+      other-own : new .own v ≡ old .own v
+      other-own =
+          let no : (i : ℕ) → 16 ≤ i → eqb k i ≡ false = λ i l. ne-eqb k i (λ z. omega arith) in
+          ap (λ (x : Node). ownList (source marked-words []) (x .kind) (x .first) (x .second)) node-other
+          ∙ ap₂ (λ x y. cond x (marks 0 (row marked-words a b)) (cond y (lent [] a b) [])) (no 16 (omega arith)) (no 17 (omega arith))
+          ∙ sym (no-lines (hits k a b) (λ x. ap₂ (λ y z. cond y (codeIs a b x) (cond z (frameIs a b x) false)) (no 16 (omega arith)) (no 17 (omega arith))) 0 ls)
+
+      other-list : apply (operatorOf (new .measure) (kindAt t v) (firstAt t v)) (new .own v) (operandsOf old rows v) ≡ listAt old rows v
+      other-list =
+          ap (λ (x : Node). apply (operatorOf (new .measure) (x .kind) (x .first)) (new .own v) (operandsOf old rows v)) node-other
+          ∙ ap (λ (l : List Stretch). apply (operatorOf (new .measure) k a) l (operandsOf old rows v)) other-own ∙ sym (list-node old rows v lv)
+
+    own-same : new .own v ≡ old .own v
+    own-same = by (le-or-lt 16 k)
+      where
+        by : (16 ≤ k) ⊎ (k < 16) → new .own v ≡ old .own v
+        by (inl h) = leaf-own h
+        by (inr h) = other-own h
+
+    list-same : apply (operatorOf (new .measure) (kindAt t v) (firstAt t v)) (new .own v) (operandsOf old rows v) ≡ listAt old rows v
+    list-same = by (le-or-lt 16 k)
+      where
+        by : (16 ≤ k) ⊎ (k < 16) → apply (operatorOf (new .measure) (kindAt t v) (firstAt t v)) (new .own v) (operandsOf old rows v) ≡ listAt old rows v
+        by (inl h) = leaf-list h
+        by (inr h) = other-list h
+
+    size-same : sizeAt t v ≡ sizeAt rows v
+    size-same = by (le-or-lt 16 k)
+      where
+        by : (16 ≤ k) ⊎ (k < 16) → sizeAt t v ≡ sizeAt rows v
+        by (inl h) = ap (λ (x : Node). x .size) (node h)
+        by (inr h) = ap (λ (x : Node). x .size) (node-other h)
+
+    row-ends : kindAt t v ≡ 16 → firstAt t v + secondAt t v ≤ n * w
+    row-ends e = by (le-or-lt 16 k)
+      where
+        by : (16 ≤ k) ⊎ (k < 16) → firstAt t v + secondAt t v ≤ n * w
+        by (inl h) =
+            omega (arith, ap (λ (x : Node). x .first) (node h), ap (λ (x : Node). x .second) (node h), suc-mul (numberIn leaves n k a b) w, mul-le-mul-right w (below h))
+        by (inr h) = absurd (omega (arith, ap (λ (x : Node). x .kind) (node-other h)))
+
+    fine-own : Fine 65536 (new .own v)
+    fine-own =
+        let bs = map (hits k a b) ls in
+        let f = fine-marks bs in
+        subst (Fine 65536) (sym own-same) (record { rising = f .rising; sound = f .sound; below = λ s e m. omega (arith, f .below s e m, length-map ls (hits k a b)) })
+
+  before : Before t (n * w)
+  before = record { wide = plan .wide; ends = row-ends }
+
+  abbrev made : Folding
+  made = folded w 32 (folding t marked-words (n * w))
+
+  made-lists : (v : ℕ) → listOf (source (made .words) []) (made .rows) v ≡ listAt old rows v
+  made-lists v = fold-lists [] w (folding t marked-words (n * w)) before 32 v ∙ same-lists old new rows t size-same list-same v
+
+  made-good : Good (source (made .words) []) (made .rows)
+  made-good = fold-good [] w (folding t marked-words (n * w)) before 32 fine-own
+
+-- 32 rows are room enough for every table
+pub room-enough : (rows : List ℕ) (w len : ℕ) → 32 * w ≤ len → leavesOf rows .count * w ≤ len
+room-enough rows w len h = omega (arith, mul-le-mul-right w (leaf-few rows))
+
+module _ (rows log : List ℕ) (w : ℕ) (words : List ℕ) (wide : length rows ≡ 128) (narrow : w ≤ 1024) (lines : length (says log) ≤ 64 * w) (room : leavesOf rows .count * w ≤ length words) where
+  abbrev g : Gathered
+  g = leavesOf rows
+
+  is-made : prepared rows log w words ≡ made rows (g .leaves) (g .count) (says log) w words wide narrow lines room (leaf-found rows)
+  unfolding prepared
+  is-made =
+      let n = g .count in
+      let f : fit n w (length words) ≡ true = true-and (leb w 1024) (leb (n * w) (length words)) (le-leb w 1024 narrow) (le-leb (n * w) (length words) room) in
+      let small : held n ≡ n = ap (λ b. cond b n 64) (lt-ltb n 64 (omega (arith, leaf-few rows))) in
+      let fold : List ℕ → Folding = λ l. folded w 32 (folding (planned (g .leaves) n w rows) l (n * w)) in
+      ap (λ b. cond b (fold (marked (g .leaves) n (says log) w words)) (folding (replicate 128 0) words 0)) f
+      ∙ ap fold (ap (λ (i : ℕ). cond (fit i w (length words)) (rowsThen (g .leaves) i (says log) w words) words) small ∙ ap (λ b. cond b (rowsThen (g .leaves) n (says log) w words) words) f)
+
+  -- the lists of the machine's table are those of the pattern's
+  pub prepared-lists : (v : ℕ) → listOf (source (prepared rows log w words .words) []) (prepared rows log w words .rows) v ≡ listAt (overTable rows (says log)) rows v
+  prepared-lists v =
+      ap (λ (f : Folding). listOf (source (f .words) []) (f .rows) v) is-made ∙ made-lists rows (g .leaves) (g .count) (says log) w words wide narrow lines room (leaf-found rows) v
+
+  -- and fine
+  pub prepared-good : Good (source (prepared rows log w words .words) []) (prepared rows log w words .rows)
+  prepared-good =
+      subst (λ (f : Folding). Good (source (f .words) []) (f .rows)) (sym is-made) (made-good rows (g .leaves) (g .count) (says log) w words wide narrow lines room (leaf-found rows))
+
+-- ── The plan's loop ──
+
+module _ (leaves : List ℕ) (n w v : ℕ) (rows : List ℕ) where
+  pub plan-other : kindAt rows v < 16 → rows ≡ planNode leaves n w v rows
+  plan-other h = sym (ap (λ b. cond b (withLeaf rows v (numberIn leaves n (kindAt rows v) (firstAt rows v) (secondAt rows v) * w) w) rows) (lt-leb 16 (kindAt rows v) h))
+
+  pub plan-leaf : (r : ℕ) → 16 ≤ kindAt rows v → r ≡ numberIn leaves n (kindAt rows v) (firstAt rows v) (secondAt rows v) → withLeaf rows v (r * w) w ≡ planNode leaves n w v rows
+  plan-leaf r h e =
+      ap (λ (k : ℕ). withLeaf rows v (k * w) w) e
+      ∙ sym (ap (λ b. cond b (withLeaf rows v (numberIn leaves n (kindAt rows v) (firstAt rows v) (secondAt rows v) * w) w) rows) (le-leb 16 (kindAt rows v) h))
+
+pub plan-more : (leaves : List ℕ) (n w : ℕ) (rows t t' : List ℕ) (m : ℕ) → t ≡ plannedTo leaves n w rows m → t' ≡ planNode leaves n w m t → t' ≡ plannedTo leaves n w rows (m + 1)
+unfolding plannedTo
+plan-more leaves n w rows t t' m e f = let z : suc m ≡ m + 1 = omega arith in f ∙ ap (planNode leaves n w m) e ∙ ap (plannedTo leaves n w rows) z
+
+-- ── Preparing ──
+
+module _ (rows log : List ℕ) (w : ℕ) (words leaves : List ℕ) (n : ℕ) (e : are leaves n ≡ leavesOf rows) where
+  pub prepare-few : n ≤ 32
+  prepare-few = omega (arith, leaf-few rows, ap (λ (g : Gathered). g .count) e)
+
+  -- the definition over the leaves gathered
+  abbrev whole : Gathered → Bool → Folding
+  whole g b =
+      cond b (folded w 32 (folding (planned (g .leaves) (g .count) w rows) (marked (g .leaves) (g .count) (says log) w words) (g .count * w)))
+      (folding (replicate 128 0) words 0)
+
+  same : whole (are leaves n) (fit n w (length words)) ≡ prepared rows log w words
+  unfolding prepared
+  same = ap (λ (g : Gathered). whole g (fit (g .count) w (length words))) e
+
+  -- where the rows do not fit
+  module _ {b : Bool} (f : b ≡ fit n w (length words)) where
+    pub prepare-not : not b ≡ true → (replicate 128 0 ≡ prepared rows log w words .rows) × (words ≡ prepared rows log w words .words)
+    prepare-not h =
+        let k : folding (replicate 128 0) words 0 ≡ prepared rows log w words = sym (ap (whole (are leaves n)) (sym f ∙ not-true b h)) ∙ same in
+        (ap (λ (x : Folding). x .rows) k, ap (λ (x : Folding). x .words) k)
+
+    -- where they do
+    module _ (h : not b ≡ false) where
+      pub prepare-room : (w ≤ 1024) × (n * w ≤ length words)
+      prepare-room = let k = and-true (leb w 1024) (leb (n * w) (length words)) (sym f ∙ not-false b h) in (leb-true w 1024 (k .0), leb-true (n * w) (length words) (k .1))
+
+      pub prepare-is : (words' t t' words'' : List ℕ) → words' ≡ marked leaves n (says log) w words → t ≡ planned leaves n w rows
+          → t' ≡ folded w 32 (folding t words' (n * w)) .rows → words'' ≡ folded w 32 (folding t words' (n * w)) .words
+          → (t' ≡ prepared rows log w words .rows) × (words'' ≡ prepared rows log w words .words)
+      prepare-is words' t t' words'' m p ft fw =
+          let k : folded w 32 (folding t words' (n * w)) ≡ prepared rows log w words =
+          ap₂ (λ (x y : List ℕ). folded w 32 (folding x y (n * w))) p m ∙ sym (ap (whole (are leaves n)) (sym f ∙ not-false b h)) ∙ same in
+          (ft ∙ ap (λ (x : Folding). x .rows) k, fw ∙ ap (λ (x : Folding). x .words) k)

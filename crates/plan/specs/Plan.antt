@@ -1,0 +1,35 @@
+-- The machine's table of a pattern's table. Assumes nothing.
+use Prim.Native.Nat.{ℕ, zero, suc, _+_, _*_, _/_}
+use mathlib.Core.Bool.{cond}
+use mathlib.Core.List.{List}
+use lib.ListN.{length, replicate}
+use lib.Dec.{leb}
+use Rattle.stretches.specs.Table.{kindAt, firstAt, secondAt}
+use Rattle.folding.specs.Fold.{Folding, folding, withLeaf, folded}
+use Rattle.event_log.specs.Reading.{says}
+use Rattle.leaves.specs.Leaves.{numberIn, leavesOf}
+use Rattle.marking.specs.Rows.{fit, marked}
+
+-- how many words a row of the log's lines has
+abbrev pub widthOf : List ℕ → ℕ
+widthOf log = (length (says log) + 63) / 64
+
+-- node v's leaf made the row of its number among n leaves
+abbrev pub planNode : List ℕ → ℕ → ℕ → ℕ → List ℕ → List ℕ
+planNode leaves n w v rows = cond (leb 16 (kindAt rows v)) (withLeaf rows v (numberIn leaves n (kindAt rows v) (firstAt rows v) (secondAt rows v) * w) w) rows
+
+-- those of the first m nodes, and of all
+unfoldable pub plannedTo : List ℕ → ℕ → ℕ → List ℕ → ℕ → List ℕ
+plannedTo leaves n w rows zero = rows
+plannedTo leaves n w rows (suc m) = planNode leaves n w m (plannedTo leaves n w rows m)
+
+abbrev pub planned : List ℕ → ℕ → ℕ → List ℕ → List ℕ
+planned leaves n w rows = plannedTo leaves n w rows 32
+
+-- the table over the rows of its leaves, folded, and the words with these rows; where they do not fit, zeros and the words as they are
+unfoldable pub prepared : List ℕ → List ℕ → ℕ → List ℕ → Folding
+prepared rows log w words =
+    let g = leavesOf rows in
+    cond (fit (g .count) w (length words))
+    (folded w 32 (folding (planned (g .leaves) (g .count) w rows) (marked (g .leaves) (g .count) (says log) w words) (g .count * w)))
+    (folding (replicate 128 0) words 0)
