@@ -1,1 +1,1 @@
-// Cases of tests and a few laws of lists that the kit's libraries lack: proofs, and no code.
+// Canonical decimals, cases of tests, and a few laws of lists that the kit's libraries lack: definitions and proofs, and no code.

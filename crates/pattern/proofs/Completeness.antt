@@ -9,7 +9,7 @@ use lib.Dec.{leb, ltb, eqb}
 use lib.ListN.{length, take}
 use borrow.Author.Tests.{le-leb, lt-ltb, le-ltb, ne-eqb, eq-eqb}
 use native.Mathlib.Omega.{arith}
-use Rattle.pattern.specs.Decimal.{digitsOf, decimal}
+use Rattle.basics.specs.Decimal.{digitsOf, decimal}
 use Rattle.pattern.specs.Pattern.{Symbol, Ev, Fr, Or, And, Row, Then, Less, Max, spellSymbol, Ranged, InRange, rank}
 use Rattle.pattern.specs.declared.State.{State}
 use Rattle.pattern.specs.declared.State.the-variants.{Letters, Field, Digits}
@@ -18,7 +18,8 @@ use Rattle.pattern.specs.declared.Step.the-variants.{Dead, Within, Close
 use Rattle.pattern.specs.Automaton.{fieldCount, low, high, arity, firstField, secondField, child, wordAt, digit, number, shut, numberEnd, step, Scan, Stop, Whole, later, after, last, finish, go, scan}
 use Rattle.pattern.specs.Rows.{symbol}
 use Rattle.basics.proofs.Basics.{true-and, le-or-lt}
-use Rattle.pattern.proofs.Numbers.{digits-small, digits-large, Starts, starts-live}
+use Rattle.basics.proofs.Decimals.{digits-small, digits-large}
+use Rattle.pattern.proofs.Numbers.{Starts, starts-live}
 use Rattle.pattern.proofs.Fields.{rank-arity}
 use Rattle.pattern.proofs.Words.{Kind}
 use Rattle.pattern.proofs.Scanning.{afters, joined, Counts, AllRanged}

@@ -8,7 +8,7 @@ use mathlib.Core.List.{List, [], _∷_, _++_, append-nil, append-assoc}
 use lib.Dec.{ltb, eqb}
 use borrow.Author.Tests.{eqb-true}
 use native.Mathlib.Omega.{arith}
-use Rattle.pattern.specs.Decimal.{decimal}
+use Rattle.basics.specs.Decimal.{decimal}
 use Rattle.pattern.specs.Pattern.{Symbol, Ev, Fr, Or, And, Row, Then, Less, Max, listed, spellSymbol, Ranged, InRange, rank}
 use Rattle.pattern.specs.Automaton.{fieldCount, low, high, arity, firstField, secondField, kinds, among}
 use Rattle.pattern.specs.Rows.{kindOf, firstOf, secondOf, symbol}

@@ -7,7 +7,7 @@ use mathlib.Core.List.{List, [], _∷_, _++_, append-assoc}
 use lib.Dec.{leb, ltb, eqb}
 use borrow.Author.Tests.{eqb-true, eqb-false, leb-true, ltb-true, ltb-false, not-true}
 use native.Mathlib.Omega.{arith}
-use Rattle.pattern.specs.Decimal.{decimal}
+use Rattle.basics.specs.Decimal.{decimal}
 use Rattle.pattern.specs.Pattern.{Symbol, Ev, spellSymbol, Ranged, InRange, rank}
 use Rattle.pattern.specs.declared.State.{State}
 use Rattle.pattern.specs.declared.State.the-variants.{Letters, Field, Digits}
@@ -16,7 +16,8 @@ use Rattle.pattern.specs.declared.Step.the-variants.{Dead, Within, Close
 use Rattle.pattern.specs.Automaton.{fieldCount, low, high, arity, firstField, secondField, child, wordAt, live, digit, number, shut, wordEnd, numberEnd, letter, step}
 use Rattle.pattern.specs.Rows.{symbol}
 use Rattle.basics.proofs.Basics.{cases, and-true}
-use Rattle.pattern.proofs.Numbers.{decimal-small, decimal-large, Starts, live-starts, starts-completed}
+use Rattle.basics.proofs.Decimals.{decimal-small, decimal-large}
+use Rattle.pattern.proofs.Numbers.{Starts, live-starts, starts-completed}
 use Rattle.pattern.proofs.Words.{path, onward, path-onward, Kind, wayAt, way-kind, child-grown, word-ended}
 use Rattle.pattern.proofs.Fields.{rank-arity, lead, spelt-last, lead-next, Earlier, ranged-last, low-small, bare, earlier-next, Named, named-last, goes, word-goes}
 

@@ -1,4 +1,3 @@
-pub mod Decimal
 pub mod Pattern
 pub mod Rows
 pub mod Automaton

@@ -8,9 +8,9 @@ use lib.ListN.{length, set, length-append}
 use lib.Seq.{sets}
 use native.Mathlib.Omega.{arith}
 use native.Mathlib.Nat.{pow-suc}
-use Rattle.pattern.specs.Decimal.{decimal}
+use Rattle.basics.specs.Decimal.{decimal}
 use Rattle.basics.proofs.Basics.{le-or-lt}
-use Rattle.pattern.proofs.Numbers.{decimal-large, decimal-small}
+use Rattle.basics.proofs.Decimals.{decimal-large, decimal-small}
 use Rattle.print.proofs.Placing.{sets-last}
 
 -- the last digit of a number of several

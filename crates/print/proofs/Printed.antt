@@ -7,7 +7,7 @@ use lib.ListN.{length, getD, take, drop, length-append}
 use lib.Seq.{drop-cons, take-nil, sets}
 use native.Mathlib.Omega.{arith}
 use Rattle.stretches.specs.Stretch.{Stretch, st}
-use Rattle.pattern.specs.Decimal.{decimal}
+use Rattle.basics.specs.Decimal.{decimal}
 use Rattle.stretches.specs.Lent.{pairs}
 use Rattle.stretches.specs.Filling.{flat}
 use Rattle.print.specs.Print.{field, rows, shown}

@@ -10,7 +10,7 @@ use lib.Dec.{leb}
 use borrow.Author.Tests.{leb-true, leb-false, not-true, not-false}
 use native.Mathlib.Omega.{arith}
 use Rattle.stretches.specs.Stretch.{Stretch}
-use Rattle.pattern.specs.Decimal.{decimal}
+use Rattle.basics.specs.Decimal.{decimal}
 use Rattle.stretches.specs.Lent.{pairs}
 use Rattle.print.specs.Print.{field, rows, foundSheet, refusedSheet, shown, Lays}
 use Rattle.print.proofs.Placing.{sets-append, laid-fits, laid-not}

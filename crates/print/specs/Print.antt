@@ -8,7 +8,7 @@ use lib.ListN.{length, take, drop}
 use lib.Dec.{leb}
 use Rattle.stretches.specs.Stretch.{Stretch, st}
 use Rattle.stretches.specs.Lent.{pairs}
-use Rattle.pattern.specs.Decimal.{digitsOf, decimal}
+use Rattle.basics.specs.Decimal.{digitsOf, decimal}
 
 -- a number and the byte that ends it: 44, a comma; 10, a line feed
 unfoldable pub field : ℕ → ℕ → List ℕ

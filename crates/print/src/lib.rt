@@ -4,7 +4,7 @@ ghost use Prim.Native.Nat.{_+_, _*_, _≤_, _<_, min};
 ghost use lib.ListN.{length, take, set};
 ghost use lib.Seq.{sets};
 ghost use lib.Dec.{leb};
-ghost use Rattle.pattern.specs.Decimal.{decimal};
+ghost use Rattle.basics.specs.Decimal.{decimal};
 ghost use Rattle.stretches.specs.Lent.{pairs};
 ghost use Rattle.print.specs.Print.{field, rows, foundSheet, refusedSheet, shown, Lays};
 

@@ -5,7 +5,7 @@ use mathlib.Core.List.{[], _∷_}
 use Rattle.pattern.specs.Rows.{symbol}
 use Rattle.pattern.specs.Automaton.{child, wordAt, step, endOf, finish, scan}
 use Rattle.pattern.specs.Reading.{build, outcomeOf}
-use Rattle.pattern.specs.Decimal.{decimal, digitsOf}
+use Rattle.basics.specs.Decimal.{decimal, digitsOf}
 use Rattle.meaning.specs.Refusals.{refusal}
 use Rattle.meaning.specs.Finding.{listOf}
 use Rattle.print.specs.Print.{field, rows, foundSheet, refusedSheet}

@@ -4,7 +4,7 @@ use Prim.Native.Nat.{_+_, _≤_}
 use mathlib.Core.Path.{_≡_}
 use native.Mathlib.Omega.{arith}
 use lib.ListN.{length}
-use Rattle.pattern.specs.Decimal.{decimal}
+use Rattle.basics.specs.Decimal.{decimal}
 use Rattle.print.proofs.Decimals.{length-last, length-one, length-word}
 use Rattle.print.proofs.digits.Statement.{statement}
 use Rattle.print.proofs.digits.Tie as tie

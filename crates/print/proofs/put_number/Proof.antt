@@ -5,7 +5,7 @@ use mathlib.Core.Path.{_≡_, ap, _∙_}
 use native.Mathlib.Omega.{arith}
 use lib.ListN.{length, set, length-set}
 use lib.Seq.{sets}
-use Rattle.pattern.specs.Decimal.{decimal}
+use Rattle.basics.specs.Decimal.{decimal}
 use Rattle.print.proofs.Decimals.{length-last, length-one, digit-written, digit-first}
 use borrow.Author.Needs.{needs}
 use Rattle.print.proofs.put_number.Statement.{statement}
