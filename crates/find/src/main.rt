@@ -1,4 +1,5 @@
 // The finder as a program: reads a pattern, a line feed and a log from standard input, and prints the sheet.
+use basics::first;
 use input::Taken;
 use libc::STDIN_FILENO;
 use libc::STDOUT_FILENO;
@@ -17,13 +18,6 @@ enum Turn {
 enum Input {
     Read(Taken),
     Failed,
-}
-
-// The first n elements; all where they are fewer.
-fn first(s: &[u8], n: usize) -> &[u8]
-    ensures { λ r. ⌜ now r ≡ take n (now (s .entry)) ⌝ }
-{
-    if n < s.len() { &s[..n] } else { s }
 }
 
 // Reads once, and takes in what came.

@@ -21,7 +21,7 @@ const LOG_MAX: usize = 61440;
 // which the following ones are sought, and whether none follow. Not live: it only says none.
 pub struct Finder {
     pub live: bool,
-    pub rows: [usize; 128],
+    pub rows: [usize; TABLE],
     pub found: [u32; 128],
     pub count: usize,
     pub given: usize,
@@ -52,7 +52,7 @@ pub struct Stepped {
 struct Readied {
     number: usize,
     place: usize,
-    rows: [usize; 128],
+    rows: [usize; TABLE],
 }
 
 // The refusal's number of a verdict.
@@ -86,7 +86,7 @@ fn read_both(text: &[u8], log: &[u8]) -> Readied
     ensures { λ r. ⌜ r ≡ readied (now (text .entry)) (now (log .entry)) ⌝ }
 {
     if LOG_MAX < log.len() {
-        let rows = [0usize; 128];
+        let rows = [0usize; TABLE];
         return Readied {
             number: 1,
             place: 0,
@@ -108,7 +108,7 @@ fn read_both(text: &[u8], log: &[u8]) -> Readied
 
 // Marks the log's lines into these words, and writes the answers from the line on.
 fn fill_with(
-    rows: &[usize; 128],
+    rows: &[usize; TABLE],
     log: &[u8],
     width: usize,
     words: &mut [u64],
@@ -126,7 +126,7 @@ fn fill_with(
 
 // Few lines: 32 KiB of words.
 fn fill_small(
-    rows: &[usize; 128],
+    rows: &[usize; TABLE],
     log: &[u8],
     width: usize,
     cells: &mut [u32],
@@ -142,7 +142,7 @@ fn fill_small(
 
 // Any number of lines: 240 KiB of words.
 fn fill_large(
-    rows: &[usize; 128],
+    rows: &[usize; TABLE],
     log: &[u8],
     width: usize,
     cells: &mut [u32],
@@ -157,7 +157,7 @@ fn fill_large(
 }
 
 // Writes the table's answers in the log that start at or after `line`, from number `from` of them on; a log that is too long has none.
-fn fill_from(rows: &[usize; 128], log: &[u8], cells: &mut [u32], line: u32, from: usize) -> Walked
+fn fill_from(rows: &[usize; TABLE], log: &[u8], cells: &mut [u32], line: u32, from: usize) -> Walked
     requires { ⌜ length (now rows) ≡ 128 ⌝ }
     ensures { λ r. ⌜ Filling (onward (listIn (now (rows .entry)) (now (log .entry))) line) from (now (cells .entry)) r (now (cells .exit)) ⌝ }
 {

@@ -22,11 +22,11 @@ use Rattle.stretches.specs.Lent.{listsOf}
 use Rattle.stretches.proofs.Fine.{AllFine, fine-answers}
 use Rattle.meaning.proofs.Bounds.{sized, few-written}
 use Rattle.meaning.specs.Refusals.{miscalled, mistaken, miscut, disordered, lowest, listsRefusal, takingRefusal}
-use Rattle.lists.specs.declared.Taken.{Taken}
+use Rattle.taking.specs.declared.Taken.{Taken}
 use Rattle.lists.specs.Filling.{listAnswers, walked, notFilled, fillResult}
-use Rattle.lists.specs.Taking.{takenBy, takenOf, given, notTaken, takeResult}
-use Rattle.lists.proofs.Ordering.{fine-lists}
-use Rattle.lists.proofs.Accepting.{accepted}
+use Rattle.taking.specs.Taking.{takenBy, takenOf, given, notTaken, takeResult}
+use Rattle.lent.proofs.Ordering.{fine-lists}
+use Rattle.lent.proofs.Accepting.{accepted}
 
 -- ── Over a pattern and a log ──
 

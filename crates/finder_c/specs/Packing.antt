@@ -2,7 +2,7 @@
 use Prim.Native.Nat.{ℕ, _+_, _*_}
 use mathlib.Core.Bool.{Bool, cond}
 use Rattle.meaning.specs.declared.Filled.{Filled}
-use Rattle.lists.specs.declared.Taken.{Taken}
+use Rattle.taking.specs.declared.Taken.{Taken}
 
 abbrev pub bit : Bool → ℕ
 bit b = cond b 1 0

@@ -1,12 +1,12 @@
 // The calls from C: numbers and slices in, one packed number out. include/finder.h declares them.
-use lists::Taken;
 use meaning::Filled;
+use taking::Taken;
 ghost use mathlib.Core.Path.{_≡_};
 ghost use Prim.Native.Nat.{_≤_};
 ghost use Rattle.stretches.specs.Filling.{filled};
 ghost use Rattle.meaning.specs.Finding.{listOf, filling};
 ghost use Rattle.lists.specs.Filling.{fillResult, fillCells};
-ghost use Rattle.lists.specs.Taking.{takeResult, takeCells};
+ghost use Rattle.taking.specs.Taking.{takeResult, takeCells};
 ghost use Rattle.finder_c.specs.Packing.{packedFill, packedTaken, bit};
 
 // The bit of a flag.
@@ -75,6 +75,6 @@ pub extern "C" fn finder_lists_take(
     ensures { λ r. ⌜ r ≡ packedTaken (takeResult op (now (items .entry)) (now (ends .entry)) (now (counts .entry)) number) ⌝ }
     ensures { λ r. ⌜ now (counts .exit) ≡ takeCells op (now (items .entry)) (now (ends .entry)) (now (counts .entry)) number ⌝ }
 {
-    let r = lists::take(op, items, ends, counts, number as usize);
+    let r = taking::take(op, items, ends, counts, number as usize);
     packed_taken(r)
 }

@@ -22,7 +22,7 @@ use Rattle.seek.proofs.Nodes.{fine}
 
 -- a table whose rows of marks end at or before place free
 pub record Before (rows : List ℕ) (free : ℕ) : Type 0 where
-  pub wide : length rows ≡ 128
+  pub wide : length rows ≡ 160
   pub ends : (v : ℕ) → v < 32 → kindAt rows v ≡ 16 → firstAt rows v + secondAt rows v ≤ free
 
 -- what `max` measures is the same over words with another row
@@ -33,13 +33,13 @@ apart : {u v : ℕ} → (u < v) ⊎ (v < u) → u ≡ v → ⊥
 apart (inl h) z = omega arith
 apart (inr h) z = omega arith
 
-module _ (rows : List ℕ) (v at width : ℕ) (wide : length rows ≡ 128) (lv : v < 32) where
+module _ (rows : List ℕ) (v at width : ℕ) (wide : length rows ≡ 160) (lv : v < 32) where
   abbrev rows' : List ℕ
   rows' = withLeaf rows v at width
 
   -- ── Its numbers ──
 
-  pub leaf-wide : length rows' ≡ 128
+  pub leaf-wide : length rows' ≡ 160
   unfolding withLeaf
   leaf-wide = simp (length-set, length-set, length-set) wide
 

@@ -1,5 +1,10 @@
 // A table folded over rows of marks: an `or` of rows alone becomes one row, and so does a `max` of a row, node by node from the last to the first.
 // rows and words are as `seek` has them.
+use nodes::MARKS;
+use nodes::MAX;
+use nodes::NODES;
+use nodes::OR;
+use nodes::TABLE;
 use nodes::next_of;
 use nodes::stop_of;
 ghost use mathlib.Core.Path.{_≡_};
@@ -10,11 +15,11 @@ ghost use Rattle.marks.specs.Row.{withRow};
 ghost use Rattle.folding.specs.Fold.{folding, rowBefore, rowsBefore, withLeaf, foldOr, maxFolded, foldNode, folded, unitedAll};
 
 // Whether node v is a row of this width that ends at or before place `free`.
-fn is_row(rows: &[usize; 128], width: usize, free: usize, v: usize) -> bool
+fn is_row(rows: &[usize; TABLE], width: usize, free: usize, v: usize) -> bool
     requires { ⌜ v < 32 ⌝ }
     ensures { λ r. ⌜ r ≡ rowBefore (now (rows .entry)) width free v ⌝ }
 {
-    if rows[v] != 16 {
+    if rows[v] != MARKS {
         return false;
     }
     if rows[96 + v] != width {
@@ -27,7 +32,7 @@ fn is_row(rows: &[usize; 128], width: usize, free: usize, v: usize) -> bool
 }
 
 // Whether all of v's operands are.
-fn all_rows(rows: &[usize; 128], width: usize, free: usize, v: usize) -> bool
+fn all_rows(rows: &[usize; TABLE], width: usize, free: usize, v: usize) -> bool
     requires { ⌜ v < 32 ⌝ }
     ensures { λ r. ⌜ r ≡ rowsBefore (now (rows .entry)) width free (operandNumbers (now (rows .entry)) v) ⌝ }
 {
@@ -54,7 +59,7 @@ fn clear(words: &mut [u64], to: usize, width: usize)
 }
 
 // Unites the row from place `to` on with the rows of v's operands.
-fn unite_all(rows: &[usize; 128], words: &mut [u64], to: usize, width: usize, v: usize)
+fn unite_all(rows: &[usize; TABLE], words: &mut [u64], to: usize, width: usize, v: usize)
     requires { ⌜ v < 32 ⌝ }
     ensures { λ _. ⌜ now (words .exit) ≡ unitedAll (now (rows .entry)) (now (words .entry)) to width (operandNumbers (now (rows .entry)) v) ⌝ }
 {
@@ -66,17 +71,23 @@ fn unite_all(rows: &[usize; 128], words: &mut [u64], to: usize, width: usize, v:
     }
 }
 
-fn put_row(rows: &mut [usize; 128], v: usize, at: usize, width: usize)
+fn put_row(rows: &mut [usize; TABLE], v: usize, at: usize, width: usize)
     requires { ⌜ v < 32 ⌝ }
     ensures { λ _. ⌜ now (rows .exit) ≡ withLeaf (now (rows .entry)) v at width ⌝ }
 {
-    rows[v] = 16;
+    rows[v] = MARKS;
     rows[64 + v] = at;
     rows[96 + v] = width;
 }
 
 // `or`: the place behind the last row in use.
-fn fold_or(rows: &mut [usize; 128], words: &mut [u64], width: usize, free: usize, v: usize) -> usize
+fn fold_or(
+    rows: &mut [usize; TABLE],
+    words: &mut [u64],
+    width: usize,
+    free: usize,
+    v: usize,
+) -> usize
     requires { ⌜ v < 32 ⌝ }
     ensures { λ r. ⌜ folding (now (rows .exit)) (now (words .exit)) r ≡ foldOr width v (folding (now (rows .entry)) (now (words .entry)) free) ⌝ }
 {
@@ -92,7 +103,7 @@ fn fold_or(rows: &mut [usize; 128], words: &mut [u64], width: usize, free: usize
     free + width
 }
 
-fn fold_max(rows: &mut [usize; 128], width: usize, free: usize, v: usize)
+fn fold_max(rows: &mut [usize; TABLE], width: usize, free: usize, v: usize)
     requires { ⌜ v < 32 ⌝ }
     ensures { λ _. ⌜ now (rows .exit) ≡ maxFolded (now (rows .entry)) width free v ⌝ }
 {
@@ -112,7 +123,7 @@ fn fold_max(rows: &mut [usize; 128], width: usize, free: usize, v: usize)
 
 // Node v: the place behind the last row in use.
 fn fold_node(
-    rows: &mut [usize; 128],
+    rows: &mut [usize; TABLE],
     words: &mut [u64],
     width: usize,
     free: usize,
@@ -122,10 +133,10 @@ fn fold_node(
     ensures { λ r. ⌜ folding (now (rows .exit)) (now (words .exit)) r ≡ foldNode width v (folding (now (rows .entry)) (now (words .entry)) free) ⌝ }
 {
     let kind = rows[v];
-    if kind == 1 {
+    if kind == OR {
         return fold_or(rows, words, width, free, v);
     }
-    if kind == 6 {
+    if kind == MAX {
         fold_max(rows, width, free, v);
         return free;
     }
@@ -134,12 +145,12 @@ fn fold_node(
 
 // Makes one row of each `or` of rows of `width` words, and of each `max` of one with a bound of at least 1. New rows lie from place `free` on, as far as the
 // words have room. Where every row of the table ends at or before `free`, no node's list changes.
-pub fn fold(rows: &mut [usize; 128], words: &mut [u64], width: usize, free: usize)
+pub fn fold(rows: &mut [usize; TABLE], words: &mut [u64], width: usize, free: usize)
     ensures { λ _. ⌜ now (rows .exit) ≡ folded width 32 (folding (now (rows .entry)) (now (words .entry)) free) .rows ⌝ }
     ensures { λ _. ⌜ now (words .exit) ≡ folded width 32 (folding (now (rows .entry)) (now (words .entry)) free) .words ⌝ }
 {
     let mut place = free;
-    let mut v = 32;
+    let mut v = NODES;
     while 0 < v {
         v -= 1;
         place = fold_node(rows, words, width, place, v);

@@ -1,4 +1,5 @@
 // Standard input taken in piece by piece: the pattern up to the first line feed, then the log.
+use basics::shorter;
 ghost use mathlib.Core.Path.{_≡_};
 ghost use Prim.Native.Nat.{min};
 ghost use lib.ListN.{length};
@@ -16,12 +17,6 @@ struct Parting {
     ended: bool,
     cut: usize,
     next: usize,
-}
-
-fn least(a: usize, b: usize) -> usize
-    ensures { λ r. ⌜ r ≡ min a b ⌝ }
-{
-    if a < b { a } else { b }
 }
 
 // How many bytes of a piece are before its first line feed; all where it has none.
@@ -52,7 +47,7 @@ fn keep(buffer: &mut [u8], used: usize, bytes: &[u8]) -> usize
         at += 1;
         i += 1;
     }
-    least(at, buffer.len())
+    shorter(at, buffer.len())
 }
 
 // Parts a piece, given whether the line feed had come before it.

@@ -10,7 +10,7 @@ use lib.Dec.{leb, ltb, eqb}
 use borrow.Author.Tests.{leb-true, leb-false, ltb-true, ltb-false, le-leb, lt-leb, lt-ltb, le-ltb, eq-eqb, ne-eqb}
 use mathlib.Core.Logic.{_⊎_, inl, inr}
 use Rattle.basics.proofs.Basics.{cases, true-and, le-or-lt}
-use Rattle.stretches.specs.Table.{kindAt, firstAt, secondAt}
+use Rattle.stretches.specs.Table.{kindAt, firstAt, secondAt, leafKind}
 use Rattle.leaves.specs.Leaves.{held, isLeaf, numberFrom, numberIn, Gathered, are, added, withNode, gatheredTo, leavesOf}
 
 -- ── The search among n leaves ──
@@ -133,11 +133,11 @@ module _ (leaves : List ℕ) (n k a b : ℕ) (long : length leaves ≡ 192) (roo
 -- ── The leaves of a table ──
 
 module _ (rows : List ℕ) (v : ℕ) (g : Gathered) where
-  pub leaf-node : 16 ≤ kindAt rows v → added (g .leaves) (g .count) (kindAt rows v) (firstAt rows v) (secondAt rows v) ≡ withNode rows v g
-  leaf-node h = sym (ap (λ t. cond t (added (g .leaves) (g .count) (kindAt rows v) (firstAt rows v) (secondAt rows v)) g) (le-leb 16 (kindAt rows v) h))
+  pub leaf-node : leafKind (kindAt rows v) ≡ true → added (g .leaves) (g .count) (kindAt rows v) (firstAt rows v) (secondAt rows v) ≡ withNode rows v g
+  leaf-node h = sym (ap (λ t. cond t (added (g .leaves) (g .count) (kindAt rows v) (firstAt rows v) (secondAt rows v)) g) h)
 
-  pub other-node : kindAt rows v < 16 → g ≡ withNode rows v g
-  other-node h = sym (ap (λ t. cond t (added (g .leaves) (g .count) (kindAt rows v) (firstAt rows v) (secondAt rows v)) g) (lt-leb 16 (kindAt rows v) h))
+  pub other-node : leafKind (kindAt rows v) ≡ false → g ≡ withNode rows v g
+  other-node h = sym (ap (λ t. cond t (added (g .leaves) (g .count) (kindAt rows v) (firstAt rows v) (secondAt rows v)) g) h)
 
 pub node-more : (rows : List ℕ) (g x : Gathered) (m : ℕ) → x ≡ gatheredTo rows g m → withNode rows m x ≡ gatheredTo rows g (m + 1)
 unfolding gatheredTo
@@ -147,7 +147,7 @@ node-more rows g x m e = let z : suc m ≡ m + 1 = omega arith in ap (withNode r
 record Knows (rows : List ℕ) (m : ℕ) (g : Gathered) : Type 0 where
   few : g .count ≤ m
   long : length (g .leaves) ≡ 192
-  known : (v : ℕ) → v < m → 16 ≤ kindAt rows v → numberIn (g .leaves) (g .count) (kindAt rows v) (firstAt rows v) (secondAt rows v) < g .count
+  known : (v : ℕ) → v < m → leafKind (kindAt rows v) ≡ true → numberIn (g .leaves) (g .count) (kindAt rows v) (firstAt rows v) (secondAt rows v) < g .count
 
 -- below 64 leaves, a leaf is among them then
 module _ (leaves : List ℕ) (n k a b : ℕ) (long : length leaves ≡ 192) (room : n < 64) where
@@ -187,8 +187,8 @@ knows rows zero h = record { few = omega arith; long = length-replicate {A = ℕ
 knows rows (suc m) h =
     let g = gatheredTo rows (are (replicate 192 0) 0) m in
     let w = knows rows m (omega arith) in
-    let Has : Gathered → ℕ → Type 0 = λ x v. 16 ≤ kindAt rows v → numberIn (x .leaves) (x .count) (kindAt rows v) (firstAt rows v) (secondAt rows v) < x .count in
-    cases (leb 16 (kindAt rows m)) (λ t. Knows rows (suc m) (cond t (added (g .leaves) (g .count) (kindAt rows m) (firstAt rows m) (secondAt rows m)) g))
+    let Has : Gathered → ℕ → Type 0 = λ x v. leafKind (kindAt rows v) ≡ true → numberIn (x .leaves) (x .count) (kindAt rows v) (firstAt rows v) (secondAt rows v) < x .count in
+    cases (leafKind (kindAt rows m)) (λ t. Knows rows (suc m) (cond t (added (g .leaves) (g .count) (kindAt rows m) (firstAt rows m) (secondAt rows m)) g))
     (λ e. let a = adds (g .leaves) (g .count) (kindAt rows m) (firstAt rows m) (secondAt rows m) (w .long) (omega (arith, w .few)) in
     record {
       few = omega (arith, w .few, a .more);
@@ -196,13 +196,13 @@ knows rows (suc m) h =
       known = λ v l. split (Has (added (g .leaves) (g .count) (kindAt rows m) (firstAt rows m) (secondAt rows m))) m v l (λ k. a .has)
           (λ q k. a .still (kindAt rows v) (firstAt rows v) (secondAt rows v) (w .known v q k));
     })
-    (λ e. record { few = omega (arith, w .few); long = w .long; known = λ v l. split (Has g) m v l (λ k. absurd (omega (arith, leb-false 16 (kindAt rows m) e))) (λ q k. w .known v q k) })
+    (λ e. record { few = omega (arith, w .few); long = w .long; known = λ v l. split (Has g) m v l (λ k. let z : _≡_ {A = ℕ} 0 1 = cc in absurd (omega arith)) (λ q k. w .known v q k) })
 
 module _ (rows : List ℕ) where
   pub leaf-few : leavesOf rows .count ≤ 32
   leaf-few = knows rows 32 (omega arith) .few
 
   -- each of its leaves is found
-  pub leaf-found : (v : ℕ) → v < 32 → 16 ≤ kindAt rows v
+  pub leaf-found : (v : ℕ) → v < 32 → leafKind (kindAt rows v) ≡ true
       → numberIn (leavesOf rows .leaves) (leavesOf rows .count) (kindAt rows v) (firstAt rows v) (secondAt rows v) < leavesOf rows .count
   leaf-found v h k = knows rows 32 (omega arith) .known v h k

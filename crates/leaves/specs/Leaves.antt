@@ -4,7 +4,7 @@ use mathlib.Core.Bool.{Bool, cond, _&&_, _||_}
 use mathlib.Core.List.{List}
 use lib.ListN.{getD, set, replicate}
 use lib.Dec.{leb, ltb, eqb}
-use Rattle.stretches.specs.Table.{kindAt, firstAt, secondAt}
+use Rattle.stretches.specs.Table.{kindAt, firstAt, secondAt, leafKind}
 
 -- how many leaves are held, of so many: there is room for 64
 abbrev pub held : ℕ → ℕ
@@ -36,9 +36,9 @@ added leaves n k a b =
     cond (ltb (numberIn leaves n k a b) n || leb 64 n) (are leaves n)
     (are (set (set (set leaves n k) (64 + n) a) (128 + n) b) (n + 1))
 
--- with node v's leaf; kinds from 16 on are leaves
+-- with node v's leaf
 abbrev pub withNode : List ℕ → ℕ → Gathered → Gathered
-withNode rows v g = cond (leb 16 (kindAt rows v)) (added (g .leaves) (g .count) (kindAt rows v) (firstAt rows v) (secondAt rows v)) g
+withNode rows v g = cond (leafKind (kindAt rows v)) (added (g .leaves) (g .count) (kindAt rows v) (firstAt rows v) (secondAt rows v)) g
 
 -- with those of the first m nodes, in the nodes' order
 unfoldable pub gatheredTo : List ℕ → Gathered → ℕ → Gathered

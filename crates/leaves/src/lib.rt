@@ -1,7 +1,10 @@
 // The different leaves of tables, numbered in the order in which they first come.
 //
-// rows: a table of nodes in four columns of 32, as `seek` has it; its leaves are of kind 16, `ev` with code and lane, and of kind 17, `fr` with frame and lane.
+// rows: a table of nodes in five columns of 32, as `seek` has it; its leaves are of kind 16, `ev` with code and lane, and of kind 17, `fr` with frame and lane.
 // leaves: in three columns of 64, the kind and the two numbers of each leaf.
+use nodes::NODES;
+use nodes::TABLE;
+use nodes::is_leaf;
 ghost use mathlib.Core.Path.{_≡_};
 ghost use Prim.Native.Nat.{_≤_, _<_};
 ghost use Rattle.leaves.specs.Leaves.{held, isLeaf, numberIn, are, added, withNode, gathered};
@@ -14,7 +17,7 @@ fn held_of(n: usize) -> usize
 }
 
 // Whether leaf r has these numbers.
-fn is_leaf(leaves: &[usize; 192], r: usize, kind: usize, first: usize, second: usize) -> bool
+fn has_numbers(leaves: &[usize; 192], r: usize, kind: usize, first: usize, second: usize) -> bool
     requires { ⌜ r < 64 ⌝ }
     ensures { λ x. ⌜ x ≡ isLeaf (now (leaves .entry)) r kind first second ⌝ }
 {
@@ -34,7 +37,7 @@ pub fn find(leaves: &[usize; 192], n: usize, kind: usize, first: usize, second: 
     let m = held_of(n);
     let mut r = 0;
     while r < m {
-        if is_leaf(leaves, r, kind, first, second) {
+        if has_numbers(leaves, r, kind, first, second) {
             return r;
         }
         r += 1;
@@ -60,23 +63,23 @@ fn add(leaves: &mut [usize; 192], n: usize, kind: usize, first: usize, second: u
 }
 
 // Adds node v's leaf, if it is one.
-fn add_node(rows: &[usize; 128], leaves: &mut [usize; 192], n: usize, v: usize) -> usize
+fn add_node(rows: &[usize; TABLE], leaves: &mut [usize; 192], n: usize, v: usize) -> usize
     requires { ⌜ (n ≤ 64) × (v < 32) ⌝ }
     ensures { λ r. ⌜ (are (now (leaves .exit)) r ≡ withNode (now (rows .entry)) v (are (now (leaves .entry)) n)) × (r ≤ 64) ⌝ }
 {
-    if rows[v] < 16 {
+    if !is_leaf(rows[v]) {
         return n;
     }
     add(leaves, n, rows[v], rows[64 + v], rows[96 + v])
 }
 
 // Adds to the first `known` leaves those of the table's nodes that are not among them, in the nodes' order: how many there are then.
-pub fn gather(rows: &[usize; 128], leaves: &mut [usize; 192], known: usize) -> usize
+pub fn gather(rows: &[usize; TABLE], leaves: &mut [usize; 192], known: usize) -> usize
     ensures { λ r. ⌜ are (now (leaves .exit)) r ≡ gathered (now (rows .entry)) (now (leaves .entry)) known ⌝ }
 {
     let mut n = held_of(known);
     let mut v = 0;
-    while v < 32 {
+    while v < NODES {
         n = add_node(rows, leaves, n, v);
         v += 1;
     }

@@ -20,11 +20,11 @@ use Rattle.seek.specs.Source.{source, listOf}
 use Rattle.walk.specs.Filling.{Filling, FillAll}
 use Rattle.seek.proofs.Nodes.{fine}
 use Rattle.lists.specs.Filling.{listAnswers, walked, notFilled, fillResult, fillCells}
-use Rattle.lists.specs.Table.{Laid}
-use Rattle.lists.proofs.Ordering.{fine-lists}
-use Rattle.lists.proofs.Queues.{ends-inside}
+use Rattle.lists.specs.inner.Table.{Laid}
+use Rattle.lent.proofs.Ordering.{fine-lists}
+use Rattle.lent.proofs.Cutting.{ends-inside}
 use Rattle.lists.proofs.Laying.{laid-good, laid-answers}
-use Rattle.lists.proofs.Accepting.{accepted}
+use Rattle.lent.proofs.Accepting.{accepted}
 
 -- how many lists an operator that is not miscalled has
 few-lists : (op n : ℕ) → takesLists op n ≡ true → n ≤ 31

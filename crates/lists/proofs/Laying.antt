@@ -21,36 +21,36 @@ use Rattle.basics.proofs.Basics.{le-or-lt, open-at}
 use Rattle.marks.specs.Row.{row}
 use Rattle.seek.specs.Source.{source, lent, ownList, given, listOf, Good}
 use Rattle.lists.specs.Filling.{listAnswers}
-use Rattle.lists.specs.Table.{Laid}
+use Rattle.lists.specs.inner.Table.{Laid}
 
 -- ── The stores ──
 
 -- a store at place a is read back there, and nowhere else
-stored : (rows : List ℕ) (a x : ℕ) → length rows ≡ 128 → a < 128 → getD (set rows a x) a 0 ≡ x
+stored : (rows : List ℕ) (a x : ℕ) → length rows ≡ 160 → a < 160 → getD (set rows a x) a 0 ≡ x
 stored rows a x w h = getD-set-same rows a x 0 (omega arith)
 
-set-wide : (rows : List ℕ) (a x : ℕ) → length rows ≡ 128 → length (set rows a x) ≡ 128
+set-wide : (rows : List ℕ) (a x : ℕ) → length rows ≡ 160 → length (set rows a x) ≡ 160
 set-wide rows a x w = simp length-set w
 
 -- the operator's node
-pub laid-root : (op k n : ℕ) (ends : List ℕ) → Laid op k n ends 0 (set (set (set (replicate 128 0) 0 op) 32 (n + 1)) 64 k)
+pub laid-root : (op k n : ℕ) (ends : List ℕ) → Laid op k n ends 0 (set (set (set (replicate 160 0) 0 op) 32 (n + 1)) 64 k)
 laid-root op k n ends =
-    let z : List ℕ = replicate 128 0 in
-    let w : length (replicate {A = ℕ} 128 0) ≡ 128 = length-replicate {A = ℕ} 128 0 in
-    let w1 = set-wide (replicate 128 0) 0 op w in
-    let w2 = set-wide (set (replicate 128 0) 0 op) 32 (n + 1) w1 in
+    let z : List ℕ = replicate 160 0 in
+    let w : length (replicate {A = ℕ} 160 0) ≡ 160 = length-replicate {A = ℕ} 160 0 in
+    let w1 = set-wide (replicate 160 0) 0 op w in
+    let w2 = set-wide (set (replicate 160 0) 0 op) 32 (n + 1) w1 in
     record {
-      wide = set-wide (set (set (replicate 128 0) 0 op) 32 (n + 1)) 64 k w2;
-      kind = getD-set-other (set (set (replicate 128 0) 0 op) 32 (n + 1)) 64 0 k 0 (λ e. omega arith) ∙ getD-set-other (set (replicate 128 0) 0 op) 32 0 (n + 1) 0 (λ e. omega arith)
-          ∙ stored (replicate 128 0) 0 op w (omega arith);
-      size = getD-set-other (set (set (replicate 128 0) 0 op) 32 (n + 1)) 64 32 k 0 (λ e. omega arith) ∙ stored (set (replicate 128 0) 0 op) 32 (n + 1) w1 (omega arith);
-      bound = stored (set (set (replicate 128 0) 0 op) 32 (n + 1)) 64 k w2 (omega arith);
+      wide = set-wide (set (set (replicate 160 0) 0 op) 32 (n + 1)) 64 k w2;
+      kind = getD-set-other (set (set (replicate 160 0) 0 op) 32 (n + 1)) 64 0 k 0 (λ e. omega arith) ∙ getD-set-other (set (replicate 160 0) 0 op) 32 0 (n + 1) 0 (λ e. omega arith)
+          ∙ stored (replicate 160 0) 0 op w (omega arith);
+      size = getD-set-other (set (set (replicate 160 0) 0 op) 32 (n + 1)) 64 32 k 0 (λ e. omega arith) ∙ stored (set (replicate 160 0) 0 op) 32 (n + 1) w1 (omega arith);
+      bound = stored (set (set (replicate 160 0) 0 op) 32 (n + 1)) 64 k w2 (omega arith);
       kinds = λ j h. absurd (omega arith);
       sizes = λ j h. absurd (omega arith);
       froms = λ j h. absurd (omega arith);
       tos = λ j h. absurd (omega arith);
-      others = λ v h l. getD-set-other (set (set (replicate 128 0) 0 op) 32 (n + 1)) 64 v k 0 (λ e. omega arith) ∙ getD-set-other (set (replicate 128 0) 0 op) 32 v (n + 1) 0 (λ e. omega arith)
-          ∙ getD-set-other (replicate 128 0) 0 v op 0 (λ e. omega arith) ∙ getD-replicate 128 v 0 0 (omega arith);
+      others = λ v h l. getD-set-other (set (set (replicate 160 0) 0 op) 32 (n + 1)) 64 v k 0 (λ e. omega arith) ∙ getD-set-other (set (replicate 160 0) 0 op) 32 v (n + 1) 0 (λ e. omega arith)
+          ∙ getD-set-other (replicate 160 0) 0 v op 0 (λ e. omega arith) ∙ getD-replicate 160 v 0 0 (omega arith);
     }
 
 -- one list more
@@ -63,13 +63,13 @@ module _ (op k n : ℕ) (ends : List ℕ) (i : ℕ) (rows : List ℕ) (lt : i < 
       getD-set-other (set (set (set rows (1 + i) 17) (33 + i) 1) (65 + i) a) (97 + i) j b 0 s ∙ getD-set-other (set (set rows (1 + i) 17) (33 + i) 1) (65 + i) j a 0 r
       ∙ getD-set-other (set rows (1 + i) 17) (33 + i) j 1 0 q ∙ getD-set-other rows (1 + i) j 17 0 p
 
-  w1 : length (set rows (1 + i) 17) ≡ 128
+  w1 : length (set rows (1 + i) 17) ≡ 160
   w1 = set-wide rows (1 + i) 17 (l .wide)
 
-  w2 : length (set (set rows (1 + i) 17) (33 + i) 1) ≡ 128
+  w2 : length (set (set rows (1 + i) 17) (33 + i) 1) ≡ 160
   w2 = set-wide (set rows (1 + i) 17) (33 + i) 1 w1
 
-  w3 : length (set (set (set rows (1 + i) 17) (33 + i) 1) (65 + i) a) ≡ 128
+  w3 : length (set (set (set rows (1 + i) 17) (33 + i) 1) (65 + i) a) ≡ 160
   w3 = set-wide (set (set rows (1 + i) 17) (33 + i) 1) (65 + i) a w2
 
   new-kind : getD four (1 + i) 0 ≡ 17

@@ -1,9 +1,2 @@
-pub mod Cutting
-pub mod Ordering
 pub mod Laying
-pub mod Queues
-pub mod Tops
-pub mod Turns
-pub mod Runs
-pub mod Accepting
 pub mod Fillings

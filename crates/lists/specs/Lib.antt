@@ -1,4 +1,2 @@
 pub mod Filling
-pub mod Taking
-pub mod Table
-pub mod Queue
+pub mod inner

@@ -1,15 +1,16 @@
 // The table of one operator over lent lists, for the machine.
-use crate::refusals::wide;
+use basics::wide;
+use nodes::TABLE;
 ghost use Prim.Native.Nat.{_≤_};
 ghost use lib.ListN.{length};
-ghost use Rattle.lists.specs.Table.{Laid};
+ghost use Rattle.lists.specs.inner.Table.{Laid};
 
 // The operator at node 0, and list i, by its places in the items, at node i + 1.
-pub(crate) fn table(op: usize, k: usize, ends: &[u32]) -> [usize; 128]
+pub(crate) fn table(op: usize, k: usize, ends: &[u32]) -> [usize; TABLE]
     requires { ⌜ length (now ends) ≤ 31 ⌝ }
     ensures { λ r. ⌜ Laid op k (length (now (ends .entry))) (now (ends .entry)) (length (now (ends .entry))) r ⌝ }
 {
-    let mut rows = [0usize; 128];
+    let mut rows = [0usize; TABLE];
     rows[0] = op;
     rows[32] = ends.len() + 1;
     rows[64] = k;

@@ -1,6 +1,7 @@
 // Runs the list examples of the text and Figure 1 of document 001 over lists, and writes a line for each call. A filling call: F, number, place, count,
 // 1 for "more"; then every lent cell. A taking call: T, number, 1 for an answer, start, end; then every count cell. Each lent cell holds 7 before the call.
 // What it must write was derived from the rules of the text, not by this program.
+use basics::wide;
 use libc::STDOUT_FILENO;
 
 fn put(b: u8) {
@@ -45,10 +46,6 @@ fn show_all(s: &[u32]) {
     put(10u8);
 }
 
-fn wide(x: u32) -> usize {
-    x as usize
-}
-
 // Fills these cells and shows them.
 fn fill_into(op: u32, k: u32, items: &[u32], ends: &[u32], cells: &mut [u32], from: usize) {
     let r = lists::fill(op, k, items, ends, cells, from);
@@ -73,7 +70,7 @@ fn take(op: u32, items: &[u32], ends: &[u32], p: usize) {
 }
 
 fn take_into(op: u32, items: &[u32], ends: &[u32], counts: &mut [u32], p: usize) {
-    let r = lists::take(op, items, ends, counts, p);
+    let r = taking::take(op, items, ends, counts, p);
     put(84u8);
     show(r.number);
     show(flag(r.found));

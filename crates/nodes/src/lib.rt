@@ -1,32 +1,71 @@
 // Where a node's operands stand in a table of 32 nodes: the first behind its operator, each next one behind the subtree of the one before.
-// rows: the table, in four columns of 32; the second has the sizes of the subtrees.
+// rows: the table, in five columns of 32; the second has the sizes of the subtrees.
 ghost use mathlib.Core.Path.{_≡_};
 ghost use Prim.Native.Nat.{_<_, _≤_};
-ghost use Rattle.stretches.specs.Table.{nextOf, stopOf};
+ghost use Rattle.stretches.specs.Table.{leafKind, nextOf, stopOf};
+
+// The kinds of nodes: operators, by their numbers;
+pub const OR: usize = 1;
+
+pub const AND: usize = 2;
+
+pub const ROW: usize = 3;
+
+pub const THEN: usize = 4;
+
+pub const LESS: usize = 5;
+
+pub const MAX: usize = 6;
+
+// leaves of a pattern: lines by code and by frame;
+pub const EV: usize = 16;
+
+pub const FR: usize = 17;
+
+// leaves of the search machine: a row of marks, and a lent list.
+pub const MARKS: usize = 16;
+
+pub const LIST: usize = 17;
+
+// The nodes that a table has room for.
+pub const NODES: usize = 32;
+
+// The cells of a table: five columns.
+pub const TABLE: usize = 160;
+
+// Whether a pattern's leaves have this kind.
+pub fn is_leaf(kind: usize) -> bool
+    ensures { λ r. ⌜ r ≡ leafKind kind ⌝ }
+{
+    if kind == EV {
+        return true;
+    }
+    kind == FR
+}
 
 // The sibling after c: past c, and at most 32; 32 where there is no node c.
-pub fn next_of(rows: &[usize; 128], c: usize) -> usize
+pub fn next_of(rows: &[usize; TABLE], c: usize) -> usize
     ensures { λ r. ⌜ (c < 32 → c < r) × (r ≤ 32) ⌝ }
     ensures { λ r. ⌜ r ≡ nextOf (now (rows .entry)) c ⌝ }
 {
-    if 32 <= c {
-        return 32;
+    if NODES <= c {
+        return NODES;
     }
-    let n = rows[32 + c];
+    let n = rows[NODES + c];
     if n == 0 {
         return c + 1;
     }
-    if n <= 32 - c { c + n } else { 32 }
+    if n <= NODES - c { c + n } else { NODES }
 }
 
 // The end of v's operands; 32 where there is no node v.
-pub fn stop_of(rows: &[usize; 128], v: usize) -> usize
+pub fn stop_of(rows: &[usize; TABLE], v: usize) -> usize
     ensures { λ r. ⌜ r ≤ 32 ⌝ }
     ensures { λ r. ⌜ r ≡ stopOf (now (rows .entry)) v ⌝ }
 {
-    if 32 <= v {
-        return 32;
+    if NODES <= v {
+        return NODES;
     }
-    let n = rows[32 + v];
-    if n <= 32 - v { v + n } else { 32 }
+    let n = rows[NODES + v];
+    if n <= NODES - v { v + n } else { NODES }
 }

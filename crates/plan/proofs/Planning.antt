@@ -2,18 +2,18 @@
 use Prim.Native.Nat.{ℕ, zero, suc, _+_, _-_, _*_, _≤_, _<_}
 use mathlib.Core.Path.{_≡_, refl, sym, ap, ap₂, subst, _∙_}
 use mathlib.Core.Logic.{_⊎_, inl, inr}
-use mathlib.Core.Bool.{Bool, true, false, not, cond, _&&_}
+use mathlib.Core.Bool.{Bool, true, false, not, cond, _&&_, _||_}
 use mathlib.Core.List.{List, [], _∷_, _++_, map, append-assoc}
 use native.Mathlib.Omega.{arith}
 use native.Mathlib.Nat.{suc-mul, mul-le-mul-right, zero-add}
 use lib.ListN.{length, getD, take, drop, replicate, length-map}
 use lib.Seq.{take-at, drop-at, drop-drop}
 use lib.Dec.{leb, eqb}
-use borrow.Author.Tests.{le-leb, lt-leb, lt-ltb, leb-true, eqb-true, ne-eqb, not-true, not-false}
-use Rattle.basics.proofs.Basics.{cases, true-and, and-true, le-or-lt}
+use borrow.Author.Tests.{le-leb, lt-leb, lt-ltb, leb-true, eqb-true, eqb-false, ne-eqb, not-true, not-false}
+use Rattle.basics.proofs.Basics.{cases, true-or-false, true-and, and-true, or-true, or-false, le-or-lt}
 use Rattle.stretches.specs.Stretch.{Stretch, st, Fine, marks}
 use Rattle.stretches.specs.Operators.{operatorOf, apply}
-use Rattle.stretches.specs.Table.{kindAt, sizeAt, firstAt, secondAt, Given, operandsOf, listAt}
+use Rattle.stretches.specs.Table.{kindAt, sizeAt, firstAt, secondAt, leafKind, Given, operandsOf, listAt}
 use Rattle.stretches.proofs.Fine.{fine-marks}
 use Rattle.stretches.proofs.Marks.{marks-clear}
 use Rattle.stretches.proofs.Table.{list-node, same-lists}
@@ -50,29 +50,29 @@ nodeAt t u = record { kind = kindAt t u; size = sizeAt t u; first = firstAt t u;
 module _ (leaves : List ℕ) (n w : ℕ) where
   -- the same node; a leaf is the row of its number
   abbrev plannedNode : Node → Node
-  plannedNode x = cond (leb 16 (x .kind)) (record { kind = 16; size = x .size; first = numberIn leaves n (x .kind) (x .first) (x .second) * w; second = w }) x
+  plannedNode x = cond (leafKind (x .kind)) (record { kind = 16; size = x .size; first = numberIn leaves n (x .kind) (x .first) (x .second) * w; second = w }) x
 
-  module _ (t : List ℕ) (m : ℕ) (l : length t ≡ 128) (lm : m < 32) where
+  module _ (t : List ℕ) (m : ℕ) (l : length t ≡ 160) (lm : m < 32) where
     abbrev at : ℕ
     at = numberIn leaves n (kindAt t m) (firstAt t m) (secondAt t m) * w
 
-    node-wide : length (planNode leaves n w m t) ≡ 128
-    node-wide = cases (leb 16 (kindAt t m)) (λ b. length (cond b (withLeaf t m at w) t) ≡ 128) (λ e. leaf-wide t m at w l lm) (λ e. l)
+    node-wide : length (planNode leaves n w m t) ≡ 160
+    node-wide = cases (leafKind (kindAt t m)) (λ b. length (cond b (withLeaf t m at w) t) ≡ 160) (λ e. leaf-wide t m at w l lm) (λ e. l)
 
     node-here : nodeAt (planNode leaves n w m t) m ≡ plannedNode (nodeAt t m)
-    node-here = cases (leb 16 (kindAt t m)) (λ b. nodeAt (cond b (withLeaf t m at w) t) m ≡ cond b (record { kind = 16; size = sizeAt t m; first = at; second = w }) (nodeAt t m))
+    node-here = cases (leafKind (kindAt t m)) (λ b. nodeAt (cond b (withLeaf t m at w) t) m ≡ cond b (record { kind = 16; size = sizeAt t m; first = at; second = w }) (nodeAt t m))
         (λ e i. record { kind = leaf-kind t m at w l lm i; size = leaf-size t m at w l lm m lm i; first = leaf-first t m at w l lm i; second = leaf-second t m at w l lm i }) (λ e. refl)
 
     node-else : (u : ℕ) → u < 32 → (u ≡ m → ⊥) → nodeAt (planNode leaves n w m t) u ≡ nodeAt t u
-    node-else u lu d = cases (leb 16 (kindAt t m)) (λ b. nodeAt (cond b (withLeaf t m at w) t) u ≡ nodeAt t u)
+    node-else u lu d = cases (leafKind (kindAt t m)) (λ b. nodeAt (cond b (withLeaf t m at w) t) u ≡ nodeAt t u)
         (λ e i. record { kind = else-kind t m at w l lm u lu d i; size = leaf-size t m at w l lm u lu i; first = else-first t m at w l lm u lu d i; second = else-second t m at w l lm u lu d i }) (λ e. refl)
 
   record Planned (rows t : List ℕ) (m : ℕ) : Type 0 where
-    wide : length t ≡ 128
+    wide : length t ≡ 160
     done : (u : ℕ) → u < m → nodeAt t u ≡ plannedNode (nodeAt rows u)
     rest : (u : ℕ) → u < 32 → m ≤ u → nodeAt t u ≡ nodeAt rows u
 
-  plans-to : (rows : List ℕ) → length rows ≡ 128 → (m : ℕ) → m ≤ 32 → Planned rows (plannedTo leaves n w rows m) m
+  plans-to : (rows : List ℕ) → length rows ≡ 160 → (m : ℕ) → m ≤ 32 → Planned rows (plannedTo leaves n w rows m) m
   unfolding plannedTo
   plans-to rows l zero h = record { wide = l; done = λ u k. absurd (omega arith); rest = λ u k g. refl }
   plans-to rows l (suc m) h = go (plannedTo leaves n w rows m) (plans-to rows l m (omega arith))
@@ -117,9 +117,17 @@ no-lines : {A : Type 0} (f : A → Bool) → ((x : A) → f x ≡ false) → (p 
 no-lines f h p [] = refl
 no-lines f h p (x ∷ xs) = ap (λ b. cond b (st p p ∷ marks (suc p) (map f xs)) (marks (suc p) (map f xs))) (h x) ∙ no-lines f h (suc p) xs
 
+-- no operator has a leaf's kind
+leaf-high : (k : ℕ) → leafKind k ≡ true → 6 < k
+leaf-high k h = by (or-true (eqb k 16) (eqb k 17) h)
+  where
+    by : (eqb k 16 ≡ true) ⊎ (eqb k 17 ≡ true) → 6 < k
+    by (inl e) = omega (arith, eqb-true k 16 e)
+    by (inr e) = omega (arith, eqb-true k 17 e)
+
 -- over n leaves among which all of the table's are found
-module _ (rows leaves : List ℕ) (n : ℕ) (ls : List Line) (w : ℕ) (words : List ℕ) (wide : length rows ≡ 128) (narrow : w ≤ 1024) (lines : length ls ≤ 64 * w) (enough : n * w ≤ length words)
-    (found : (v : ℕ) → v < 32 → 16 ≤ kindAt rows v → numberIn leaves n (kindAt rows v) (firstAt rows v) (secondAt rows v) < n) where
+module _ (rows leaves : List ℕ) (n : ℕ) (ls : List Line) (w : ℕ) (words : List ℕ) (wide : length rows ≡ 160) (narrow : w ≤ 1024) (lines : length ls ≤ 64 * w) (enough : n * w ≤ length words)
+    (found : (v : ℕ) → v < 32 → leafKind (kindAt rows v) ≡ true → numberIn leaves n (kindAt rows v) (firstAt rows v) (secondAt rows v) < n) where
   abbrev t : List ℕ
   t = planned leaves n w rows
 
@@ -146,7 +154,7 @@ module _ (rows leaves : List ℕ) (n : ℕ) (ls : List Line) (w : ℕ) (words : 
     b = secondAt rows v
 
     -- a leaf's number, and the leaf of that number
-    module _ (h : 16 ≤ k) where
+    module _ (h : leafKind k ≡ true) where
       abbrev r : ℕ
       r = numberIn leaves n k a b
 
@@ -154,7 +162,7 @@ module _ (rows leaves : List ℕ) (n : ℕ) (ls : List Line) (w : ℕ) (words : 
       below = found v lv h
 
       node : nodeAt t v ≡ record { kind = 16; size = sizeAt rows v; first = r * w; second = w }
-      node = plan .done v lv ∙ ap (λ c. cond c (record { kind = 16; size = sizeAt rows v; first = r * w; second = w }) (nodeAt rows v)) (le-leb 16 k h)
+      node = plan .done v lv ∙ ap (λ c. cond c (record { kind = 16; size = sizeAt rows v; first = r * w; second = w }) (nodeAt rows v)) h
 
       numbers : (getD leaves r 0 ≡ k) × (getD leaves (64 + r) 0 ≡ a) × (getD leaves (128 + r) 0 ≡ b)
       numbers =
@@ -179,19 +187,19 @@ module _ (rows leaves : List ℕ) (n : ℕ) (ls : List Line) (w : ℕ) (words : 
       leaf-list : apply (operatorOf (new .measure) (kindAt t v) (firstAt t v)) (new .own v) (operandsOf old rows v) ≡ listAt old rows v
       leaf-list =
           ap (λ (x : Node). apply (operatorOf (new .measure) (x .kind) (x .first)) (new .own v) (operandsOf old rows v)) node ∙ leaf-own
-          ∙ sym (list-node old rows v lv ∙ ap (λ o. apply o (old .own v) (operandsOf old rows v)) (no-operator (old .measure) k a (omega arith)))
+          ∙ sym (list-node old rows v lv ∙ ap (λ o. apply o (old .own v) (operandsOf old rows v)) (no-operator (old .measure) k a (leaf-high k h)))
 
     -- another node
-    module _ (h : k < 16) where
+    module _ (h : leafKind k ≡ false) where
       node-other : nodeAt t v ≡ nodeAt rows v
-      node-other = plan .done v lv ∙ ap (λ c. cond c (record { kind = 16; size = sizeAt rows v; first = numberIn leaves n k a b * w; second = w }) (nodeAt rows v)) (lt-leb 16 k h)
+      node-other = plan .done v lv ∙ ap (λ c. cond c (record { kind = 16; size = sizeAt rows v; first = numberIn leaves n k a b * w; second = w }) (nodeAt rows v)) h
 
       other-own : new .own v ≡ old .own v
       other-own =
-          let no : (i : ℕ) → 16 ≤ i → eqb k i ≡ false = λ i l. ne-eqb k i (λ z. omega arith) in
+          let no = or-false (eqb k 16) (eqb k 17) h in
           ap (λ (x : Node). ownList (source marked-words []) (x .kind) (x .first) (x .second)) node-other
-          ∙ ap₂ (λ x y. cond x (marks 0 (row marked-words a b)) (cond y (lent [] a b) [])) (no 16 (omega arith)) (no 17 (omega arith))
-          ∙ sym (no-lines (hits k a b) (λ x. ap₂ (λ y z. cond y (codeIs a b x) (cond z (frameIs a b x) false)) (no 16 (omega arith)) (no 17 (omega arith))) 0 ls)
+          ∙ ap₂ (λ x y. cond x (marks 0 (row marked-words a b)) (cond y (lent [] a b) [])) (no .0) (no .1)
+          ∙ sym (no-lines (hits k a b) (λ x. ap₂ (λ y z. cond y (codeIs a b x) (cond z (frameIs a b x) false)) (no .0) (no .1)) 0 ls)
 
       other-list : apply (operatorOf (new .measure) (kindAt t v) (firstAt t v)) (new .own v) (operandsOf old rows v) ≡ listAt old rows v
       other-list =
@@ -199,33 +207,33 @@ module _ (rows leaves : List ℕ) (n : ℕ) (ls : List Line) (w : ℕ) (words : 
           ∙ ap (λ (l : List Stretch). apply (operatorOf (new .measure) k a) l (operandsOf old rows v)) other-own ∙ sym (list-node old rows v lv)
 
     own-same : new .own v ≡ old .own v
-    own-same = by (le-or-lt 16 k)
+    own-same = by (true-or-false (leafKind k))
       where
-        by : (16 ≤ k) ⊎ (k < 16) → new .own v ≡ old .own v
+        by : (leafKind k ≡ true) ⊎ (leafKind k ≡ false) → new .own v ≡ old .own v
         by (inl h) = leaf-own h
         by (inr h) = other-own h
 
     list-same : apply (operatorOf (new .measure) (kindAt t v) (firstAt t v)) (new .own v) (operandsOf old rows v) ≡ listAt old rows v
-    list-same = by (le-or-lt 16 k)
+    list-same = by (true-or-false (leafKind k))
       where
-        by : (16 ≤ k) ⊎ (k < 16) → apply (operatorOf (new .measure) (kindAt t v) (firstAt t v)) (new .own v) (operandsOf old rows v) ≡ listAt old rows v
+        by : (leafKind k ≡ true) ⊎ (leafKind k ≡ false) → apply (operatorOf (new .measure) (kindAt t v) (firstAt t v)) (new .own v) (operandsOf old rows v) ≡ listAt old rows v
         by (inl h) = leaf-list h
         by (inr h) = other-list h
 
     size-same : sizeAt t v ≡ sizeAt rows v
-    size-same = by (le-or-lt 16 k)
+    size-same = by (true-or-false (leafKind k))
       where
-        by : (16 ≤ k) ⊎ (k < 16) → sizeAt t v ≡ sizeAt rows v
+        by : (leafKind k ≡ true) ⊎ (leafKind k ≡ false) → sizeAt t v ≡ sizeAt rows v
         by (inl h) = ap (λ (x : Node). x .size) (node h)
         by (inr h) = ap (λ (x : Node). x .size) (node-other h)
 
     row-ends : kindAt t v ≡ 16 → firstAt t v + secondAt t v ≤ n * w
-    row-ends e = by (le-or-lt 16 k)
+    row-ends e = by (true-or-false (leafKind k))
       where
-        by : (16 ≤ k) ⊎ (k < 16) → firstAt t v + secondAt t v ≤ n * w
+        by : (leafKind k ≡ true) ⊎ (leafKind k ≡ false) → firstAt t v + secondAt t v ≤ n * w
         by (inl h) =
             omega (arith, ap (λ (x : Node). x .first) (node h), ap (λ (x : Node). x .second) (node h), suc-mul (numberIn leaves n k a b) w, mul-le-mul-right w (below h))
-        by (inr h) = absurd (omega (arith, ap (λ (x : Node). x .kind) (node-other h)))
+        by (inr h) = absurd (omega (arith, ap (λ (x : Node). x .kind) (node-other h), eqb-false k 16 (or-false (eqb k 16) (eqb k 17) h .0)))
 
     fine-own : Fine 65536 (new .own v)
     fine-own =
@@ -249,7 +257,7 @@ module _ (rows leaves : List ℕ) (n : ℕ) (ls : List Line) (w : ℕ) (words : 
 pub room-enough : (rows : List ℕ) (w len : ℕ) → 32 * w ≤ len → leavesOf rows .count * w ≤ len
 room-enough rows w len h = omega (arith, mul-le-mul-right w (leaf-few rows))
 
-module _ (rows log : List ℕ) (w : ℕ) (words : List ℕ) (wide : length rows ≡ 128) (narrow : w ≤ 1024) (lines : length (says log) ≤ 64 * w) (room : leavesOf rows .count * w ≤ length words) where
+module _ (rows log : List ℕ) (w : ℕ) (words : List ℕ) (wide : length rows ≡ 160) (narrow : w ≤ 1024) (lines : length (says log) ≤ 64 * w) (room : leavesOf rows .count * w ≤ length words) where
   abbrev g : Gathered
   g = leavesOf rows
 
@@ -260,7 +268,7 @@ module _ (rows log : List ℕ) (w : ℕ) (words : List ℕ) (wide : length rows 
       let f : fit n w (length words) ≡ true = true-and (leb w 1024) (leb (n * w) (length words)) (le-leb w 1024 narrow) (le-leb (n * w) (length words) room) in
       let small : held n ≡ n = ap (λ b. cond b n 64) (lt-ltb n 64 (omega (arith, leaf-few rows))) in
       let fold : List ℕ → Folding = λ l. folded w 32 (folding (planned (g .leaves) n w rows) l (n * w)) in
-      ap (λ b. cond b (fold (marked (g .leaves) n (says log) w words)) (folding (replicate 128 0) words 0)) f
+      ap (λ b. cond b (fold (marked (g .leaves) n (says log) w words)) (folding (replicate 160 0) words 0)) f
       ∙ ap fold (ap (λ (i : ℕ). cond (fit i w (length words)) (rowsThen (g .leaves) i (says log) w words) words) small ∙ ap (λ b. cond b (rowsThen (g .leaves) n (says log) w words) words) f)
 
   -- the lists of the machine's table are those of the pattern's
@@ -276,13 +284,13 @@ module _ (rows log : List ℕ) (w : ℕ) (words : List ℕ) (wide : length rows 
 -- ── The plan's loop ──
 
 module _ (leaves : List ℕ) (n w v : ℕ) (rows : List ℕ) where
-  pub plan-other : kindAt rows v < 16 → rows ≡ planNode leaves n w v rows
-  plan-other h = sym (ap (λ b. cond b (withLeaf rows v (numberIn leaves n (kindAt rows v) (firstAt rows v) (secondAt rows v) * w) w) rows) (lt-leb 16 (kindAt rows v) h))
+  pub plan-other : leafKind (kindAt rows v) ≡ false → rows ≡ planNode leaves n w v rows
+  plan-other h = sym (ap (λ b. cond b (withLeaf rows v (numberIn leaves n (kindAt rows v) (firstAt rows v) (secondAt rows v) * w) w) rows) h)
 
-  pub plan-leaf : (r : ℕ) → 16 ≤ kindAt rows v → r ≡ numberIn leaves n (kindAt rows v) (firstAt rows v) (secondAt rows v) → withLeaf rows v (r * w) w ≡ planNode leaves n w v rows
+  pub plan-leaf : (r : ℕ) → leafKind (kindAt rows v) ≡ true → r ≡ numberIn leaves n (kindAt rows v) (firstAt rows v) (secondAt rows v) → withLeaf rows v (r * w) w ≡ planNode leaves n w v rows
   plan-leaf r h e =
       ap (λ (k : ℕ). withLeaf rows v (k * w) w) e
-      ∙ sym (ap (λ b. cond b (withLeaf rows v (numberIn leaves n (kindAt rows v) (firstAt rows v) (secondAt rows v) * w) w) rows) (le-leb 16 (kindAt rows v) h))
+      ∙ sym (ap (λ b. cond b (withLeaf rows v (numberIn leaves n (kindAt rows v) (firstAt rows v) (secondAt rows v) * w) w) rows) h)
 
 pub plan-more : (leaves : List ℕ) (n w : ℕ) (rows t t' : List ℕ) (m : ℕ) → t ≡ plannedTo leaves n w rows m → t' ≡ planNode leaves n w m t → t' ≡ plannedTo leaves n w rows (m + 1)
 unfolding plannedTo
@@ -298,7 +306,7 @@ module _ (rows log : List ℕ) (w : ℕ) (words leaves : List ℕ) (n : ℕ) (e 
   abbrev whole : Gathered → Bool → Folding
   whole g b =
       cond b (folded w 32 (folding (planned (g .leaves) (g .count) w rows) (marked (g .leaves) (g .count) (says log) w words) (g .count * w)))
-      (folding (replicate 128 0) words 0)
+      (folding (replicate 160 0) words 0)
 
   same : whole (are leaves n) (fit n w (length words)) ≡ prepared rows log w words
   unfolding prepared
@@ -306,9 +314,9 @@ module _ (rows log : List ℕ) (w : ℕ) (words leaves : List ℕ) (n : ℕ) (e 
 
   -- where the rows do not fit
   module _ {b : Bool} (f : b ≡ fit n w (length words)) where
-    pub prepare-not : not b ≡ true → (replicate 128 0 ≡ prepared rows log w words .rows) × (words ≡ prepared rows log w words .words)
+    pub prepare-not : not b ≡ true → (replicate 160 0 ≡ prepared rows log w words .rows) × (words ≡ prepared rows log w words .words)
     prepare-not h =
-        let k : folding (replicate 128 0) words 0 ≡ prepared rows log w words = sym (ap (whole (are leaves n)) (sym f ∙ not-true b h)) ∙ same in
+        let k : folding (replicate 160 0) words 0 ≡ prepared rows log w words = sym (ap (whole (are leaves n)) (sym f ∙ not-true b h)) ∙ same in
         (ap (λ (x : Folding). x .rows) k, ap (λ (x : Folding). x .words) k)
 
     -- where they do

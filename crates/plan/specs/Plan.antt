@@ -3,8 +3,7 @@ use Prim.Native.Nat.{ℕ, zero, suc, _+_, _*_, _/_}
 use mathlib.Core.Bool.{cond}
 use mathlib.Core.List.{List}
 use lib.ListN.{length, replicate}
-use lib.Dec.{leb}
-use Rattle.stretches.specs.Table.{kindAt, firstAt, secondAt}
+use Rattle.stretches.specs.Table.{kindAt, firstAt, secondAt, leafKind}
 use Rattle.folding.specs.Fold.{Folding, folding, withLeaf, folded}
 use Rattle.event_log.specs.Reading.{says}
 use Rattle.leaves.specs.Leaves.{numberIn, leavesOf}
@@ -16,7 +15,7 @@ widthOf log = (length (says log) + 63) / 64
 
 -- node v's leaf made the row of its number among n leaves
 abbrev pub planNode : List ℕ → ℕ → ℕ → ℕ → List ℕ → List ℕ
-planNode leaves n w v rows = cond (leb 16 (kindAt rows v)) (withLeaf rows v (numberIn leaves n (kindAt rows v) (firstAt rows v) (secondAt rows v) * w) w) rows
+planNode leaves n w v rows = cond (leafKind (kindAt rows v)) (withLeaf rows v (numberIn leaves n (kindAt rows v) (firstAt rows v) (secondAt rows v) * w) w) rows
 
 -- those of the first m nodes, and of all
 unfoldable pub plannedTo : List ℕ → ℕ → ℕ → List ℕ → ℕ → List ℕ
@@ -32,4 +31,4 @@ prepared rows log w words =
     let g = leavesOf rows in
     cond (fit (g .count) w (length words))
     (folded w 32 (folding (planned (g .leaves) (g .count) w rows) (marked (g .leaves) (g .count) (says log) w words) (g .count * w)))
-    (folding (replicate 128 0) words 0)
+    (folding (replicate 160 0) words 0)

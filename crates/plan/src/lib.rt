@@ -3,6 +3,10 @@
 use leaves::find;
 use leaves::gather;
 use marking::mark;
+use nodes::MARKS;
+use nodes::NODES;
+use nodes::TABLE;
+use nodes::is_leaf;
 ghost use mathlib.Core.Path.{_≡_};
 ghost use Prim.Native.Nat.{_≤_, _<_};
 ghost use Rattle.marking.specs.Rows.{fit};
@@ -27,26 +31,26 @@ fn has_room(n: usize, width: usize, len: usize) -> bool
 }
 
 // Node v: a leaf becomes the row of its number.
-fn plan_node(rows: &mut [usize; 128], leaves: &[usize; 192], n: usize, width: usize, v: usize)
+fn plan_node(rows: &mut [usize; TABLE], leaves: &[usize; 192], n: usize, width: usize, v: usize)
     requires { ⌜ (n ≤ 64) × (width ≤ 1024) × (v < 32) ⌝ }
     ensures { λ _. ⌜ now (rows .exit) ≡ planNode (now (leaves .entry)) n width v (now (rows .entry)) ⌝ }
 {
-    if rows[v] < 16 {
+    if !is_leaf(rows[v]) {
         return;
     }
     let r = find(leaves, n, rows[v], rows[64 + v], rows[96 + v]);
-    rows[v] = 16;
+    rows[v] = MARKS;
     rows[64 + v] = r * width;
     rows[96 + v] = width;
 }
 
 // Each leaf becomes the row of its number among n leaves.
-fn plan(rows: &mut [usize; 128], leaves: &[usize; 192], n: usize, width: usize)
+fn plan(rows: &mut [usize; TABLE], leaves: &[usize; 192], n: usize, width: usize)
     requires { ⌜ (n ≤ 64) × (width ≤ 1024) ⌝ }
     ensures { λ _. ⌜ now (rows .exit) ≡ planned (now (leaves .entry)) n width (now (rows .entry)) ⌝ }
 {
     let mut v = 0;
-    while v < 32 {
+    while v < NODES {
         plan_node(rows, leaves, n, width, v);
         v += 1;
     }
@@ -54,14 +58,14 @@ fn plan(rows: &mut [usize; 128], leaves: &[usize; 192], n: usize, width: usize)
 
 // Marks the log's lines for the leaves of a pattern's table, and gives the table over these rows: where a row has a bit for each line, each of its nodes has the
 // list that it has in the pattern's table. Where the rows do not fit into the words, these stay, and the table is zeros.
-pub fn prepare(rows: &[usize; 128], log: &[u8], width: usize, words: &mut [u64]) -> [usize; 128]
+pub fn prepare(rows: &[usize; TABLE], log: &[u8], width: usize, words: &mut [u64]) -> [usize; TABLE]
     ensures { λ r. ⌜ r ≡ prepared (now (rows .entry)) (now (log .entry)) width (now (words .entry)) .rows ⌝ }
     ensures { λ _. ⌜ now (words .exit) ≡ prepared (now (rows .entry)) (now (log .entry)) width (now (words .entry)) .words ⌝ }
 {
     let mut leaves = [0usize; 192];
     let n = gather(rows, &mut leaves, 0);
     if !has_room(n, width, words.len()) {
-        return [0usize; 128];
+        return [0usize; TABLE];
     }
     mark(log, &leaves, n, width, words);
     let mut table = *rows;

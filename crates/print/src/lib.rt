@@ -1,24 +1,14 @@
 // The printed lines: the sheet of an accepted search and that of a refusal, digit by digit, written into a lent buffer.
+use basics::shorter;
+use basics::wide;
 ghost use mathlib.Core.Path.{_≡_};
-ghost use Prim.Native.Nat.{_+_, _*_, _≤_, _<_, min};
+ghost use Prim.Native.Nat.{_+_, _*_, _≤_, _<_};
 ghost use lib.ListN.{length, take, set};
 ghost use lib.Seq.{sets};
 ghost use lib.Dec.{leb};
 ghost use Rattle.basics.specs.Decimal.{decimal};
 ghost use Rattle.stretches.specs.Lent.{pairs};
 ghost use Rattle.print.specs.Print.{field, rows, foundSheet, refusedSheet, shown, Lays};
-
-fn wide(x: u32) -> usize
-    ensures { λ r. ⌜ r ≡ x ⌝ }
-{
-    x as usize
-}
-
-fn least(a: usize, b: usize) -> usize
-    ensures { λ r. ⌜ r ≡ min a b ⌝ }
-{
-    if a < b { a } else { b }
-}
 
 // The byte of a digit.
 fn digit(d: usize) -> u8
@@ -135,7 +125,7 @@ pub fn write_found(
 ) -> usize
     ensures { λ r. ⌜ Lays (foundSheet lines damaged (shown count (now (cells .entry)))) (now (out .entry)) r (now (out .exit)) ⌝ }
 {
-    let most = least(count, cells.len() / 2);
+    let most = shorter(count, cells.len() / 2);
     if !found_fits(lines, damaged, cells, most, out.len()) {
         return 0;
     }

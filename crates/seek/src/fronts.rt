@@ -1,8 +1,9 @@
 // Fronts, looks and what is kept of a node: small steps that no call goes out of.
 use crate::Front;
+use basics::wide;
 ghost use mathlib.Core.Path.{_≡_};
 ghost use mathlib.Core.Bool.{true, not, _&&_};
-ghost use Prim.Native.Nat.{_<_, min, max};
+ghost use Prim.Native.Nat.{_<_};
 ghost use lib.Dec.{eqb};
 ghost use Rattle.stretches.specs.Stretch.{st};
 ghost use Rattle.seek.specs.Source.{measured, source};
@@ -13,12 +14,6 @@ pub struct Look {
     pub start: u32,
     pub end: u32,
     pub good: bool,
-}
-
-pub(crate) fn wide(x: u32) -> usize
-    ensures { λ r. ⌜ (r ≡ x) × (r < 4294967296) ⌝ }
-{
-    x as usize
 }
 
 pub(crate) fn at(start: u32, end: u32) -> Front
@@ -93,18 +88,6 @@ pub(crate) fn better(a: Front, b: Front) -> Front
         return a;
     }
     if a.start < b.start { b } else { a }
-}
-
-pub(crate) fn least(a: u32, b: u32) -> u32
-    ensures { λ r. ⌜ r ≡ min a b ⌝ }
-{
-    if b < a { b } else { a }
-}
-
-pub(crate) fn most(a: u32, b: u32) -> u32
-    ensures { λ r. ⌜ r ≡ max a b ⌝ }
-{
-    if a < b { b } else { a }
 }
 
 // Whether a front that does not start at line `to` breaks the chain.

@@ -2,7 +2,8 @@
 use crate::Front;
 use crate::fronts::at;
 use crate::fronts::none;
-use crate::fronts::wide;
+use basics::wide;
+use nodes::TABLE;
 ghost use mathlib.Core.Path.{_≡_};
 ghost use Prim.Native.Nat.{_<_, _≤_};
 ghost use Rattle.stretches.specs.Table.{firstAt, secondAt};
@@ -21,7 +22,7 @@ fn at_line(line: usize) -> Front
 }
 
 // The first marked line from t on of the row that the leaf's numbers name.
-pub(crate) fn seek_row(rows: &[usize; 128], words: &[u64], v: usize, t: u32) -> Front
+pub(crate) fn seek_row(rows: &[usize; TABLE], words: &[u64], v: usize, t: u32) -> Front
     requires { ⌜ v < 32 ⌝ }
     ensures { λ r. ⌜ RowFound (now (words .entry)) (firstAt (now (rows .entry)) v) (secondAt (now (rows .entry)) v) t r ⌝ }
 {
@@ -76,7 +77,7 @@ fn run(items: &[u32], p: usize, hi: usize, t: u32) -> usize
 
 // The first stretch from t on of the list that lies between the leaf's two places; none where it lies outside the items.
 pub(crate) fn seek_list(
-    rows: &[usize; 128],
+    rows: &[usize; TABLE],
     items: &[u32],
     st: &mut [u32; 128],
     v: usize,

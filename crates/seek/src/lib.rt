@@ -1,6 +1,6 @@
 // The search machine: over a table of nodes and what its leaves read, the first stretch of a node's list from a line on.
 //
-// rows: the table, in four columns of 32: kind, size of the subtree, first number, second number. Kinds: 1 or, 2 and, 3 row, 4 then, 5 less,
+// rows: the table, in five columns of 32: kind, size of the subtree, and the numbers. Kinds: 1 or, 2 and, 3 row, 4 then, 5 less,
 // 6 max with its bound as first number, 16 a row of marks with its first word and width, 17 a lent list with its places from and to.
 // words, items: what the leaves read; rows of marks, and starts and ends in turn.
 // st: what is kept, in four columns of 32: one past the start (0: nothing), the end, the line asked from, and over lists a place in the items, only a hint.
@@ -8,6 +8,8 @@ mod fronts;
 mod leaves;
 mod machine;
 
+use nodes::NODES;
+use nodes::TABLE;
 ghost use Rattle.seek.specs.Source.{source};
 ghost use Rattle.seek.specs.Steps.{FirstOf, Ahead};
 
@@ -20,7 +22,7 @@ pub struct Front {
 // The first stretch of node v that starts at or after t, and none where there is none or no node v. The state serves the next call over the same
 // table and source; at first it is zeros. With a state that no such call left, or a list that is not fine, the front is free.
 pub fn first(
-    rows: &[usize; 128],
+    rows: &[usize; TABLE],
     words: &[u64],
     items: &[u32],
     st: &mut [u32; 128],
@@ -30,7 +32,7 @@ pub fn first(
     ensures { λ r. ⌜ FirstOf (source (now (words .entry)) (now (items .entry))) (now (rows .entry)) (now (st .entry)) v t r (now (st .exit)) ⌝ }
     ensures { λ r. ⌜ Ahead t r ⌝ }
 {
-    if 32 <= v {
+    if NODES <= v {
         return fronts::none();
     }
     let f = machine::seek(rows, words, items, st, v, t);

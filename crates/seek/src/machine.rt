@@ -5,10 +5,8 @@ use crate::fronts::Look;
 use crate::fronts::at;
 use crate::fronts::better;
 use crate::fronts::breaks;
-use crate::fronts::least;
 use crate::fronts::look_of;
 use crate::fronts::measure;
-use crate::fronts::most;
 use crate::fronts::no_look;
 use crate::fronts::none;
 use crate::fronts::past;
@@ -16,6 +14,17 @@ use crate::fronts::put_front;
 use crate::fronts::serves;
 use crate::leaves::seek_list;
 use crate::leaves::seek_row;
+use basics::least;
+use basics::most;
+use nodes::AND;
+use nodes::LESS;
+use nodes::LIST;
+use nodes::MARKS;
+use nodes::MAX;
+use nodes::OR;
+use nodes::ROW;
+use nodes::TABLE;
+use nodes::THEN;
 use nodes::next_of;
 use nodes::stop_of;
 ghost use mathlib.Core.Path.{_≡_};
@@ -26,7 +35,7 @@ ghost use Rattle.seek.specs.Seek.{Chains, Narrows, Filters, Skips, Sough
 
 // `or`: the best of the operands' fronts.
 fn seek_or(
-    rows: &[usize; 128],
+    rows: &[usize; TABLE],
     words: &[u64],
     items: &[u32],
     st: &mut [u32; 128],
@@ -49,7 +58,7 @@ fn seek_or(
 
 // `and`: the span of the operands' fronts from t on.
 fn span(
-    rows: &[usize; 128],
+    rows: &[usize; TABLE],
     words: &[u64],
     items: &[u32],
     st: &mut [u32; 128],
@@ -77,7 +86,7 @@ fn span(
 
 // `row` and `then`: the first operand's front from t on, then each next one's from past the one before. `row` is given up where one does not start there.
 fn chain(
-    rows: &[usize; 128],
+    rows: &[usize; TABLE],
     words: &[u64],
     items: &[u32],
     st: &mut [u32; 128],
@@ -87,7 +96,7 @@ fn chain(
     requires { ⌜ (v < 32) × (v + 1 < stopOf (now rows) v) ⌝ }
     ensures { λ r. ⌜ (Chains (kindAt (now (rows .entry)) v) → Looked (source (now (words .entry)) (now (items .entry))) (now (rows .entry)) (now (st .entry)) v t r (now (st .exit))) ⌝ }
 {
-    let tight = rows[v] == 3;
+    let tight = rows[v] == ROW;
     let stop = stop_of(rows, v);
     let a = seek(rows, words, items, st, v + 1, t);
     let s = a.start;
@@ -113,7 +122,7 @@ fn chain(
 
 // Whether a front of v's first operand passes the test of v's kind.
 fn passes(
-    rows: &[usize; 128],
+    rows: &[usize; TABLE],
     words: &[u64],
     items: &[u32],
     st: &mut [u32; 128],
@@ -123,7 +132,7 @@ fn passes(
     requires { ⌜ (v < 32) × (v + 1 < stopOf (now rows) v) ⌝ }
     ensures { λ r. ⌜ Tested (source (now (words .entry)) (now (items .entry))) (now (rows .entry)) (now (st .entry)) v a r (now (st .exit)) ⌝ }
 {
-    if rows[v] == 6 {
+    if rows[v] == MAX {
         return measure(words, items, a) <= rows[64 + v];
     }
     let other = next_of(rows, v + 1);
@@ -136,7 +145,7 @@ fn passes(
 
 // The filters: the first operand's front from t on, good where it passes the test.
 fn filter(
-    rows: &[usize; 128],
+    rows: &[usize; TABLE],
     words: &[u64],
     items: &[u32],
     st: &mut [u32; 128],
@@ -156,7 +165,7 @@ fn filter(
 
 // What an operator but `or` offers first from t on.
 fn look_at(
-    rows: &[usize; 128],
+    rows: &[usize; TABLE],
     words: &[u64],
     items: &[u32],
     st: &mut [u32; 128],
@@ -170,13 +179,13 @@ fn look_at(
         return no_look();
     }
     let kind = rows[v];
-    if kind == 2 {
+    if kind == AND {
         return span(rows, words, items, st, v, t);
     }
-    if kind == 3 {
+    if kind == ROW {
         return chain(rows, words, items, st, v, t);
     }
-    if kind == 4 {
+    if kind == THEN {
         return chain(rows, words, items, st, v, t);
     }
     filter(rows, words, items, st, v, t)
@@ -184,7 +193,7 @@ fn look_at(
 
 // `and` and `then`: the last look that still ends where the first does.
 fn narrow(
-    rows: &[usize; 128],
+    rows: &[usize; TABLE],
     words: &[u64],
     items: &[u32],
     st: &mut [u32; 128],
@@ -216,7 +225,7 @@ fn narrow(
 
 // `row` and the filters: the first look that is good.
 fn skip(
-    rows: &[usize; 128],
+    rows: &[usize; TABLE],
     words: &[u64],
     items: &[u32],
     st: &mut [u32; 128],
@@ -246,7 +255,7 @@ fn skip(
 
 // The front of v of which nothing that serves is kept, by its kind. A kind that no list and no operator has finds none.
 fn fresh(
-    rows: &[usize; 128],
+    rows: &[usize; TABLE],
     words: &[u64],
     items: &[u32],
     st: &mut [u32; 128],
@@ -257,33 +266,36 @@ fn fresh(
     ensures { λ r. ⌜ Sought (source (now (words .entry)) (now (items .entry))) (now (rows .entry)) (now (st .entry)) v t r (now (st .exit)) ⌝ }
 {
     let kind = rows[v];
-    if kind == 16 {
+    if kind == MARKS {
         return seek_row(rows, words, v, t);
     }
-    if kind == 17 {
+    if kind == LIST {
         return seek_list(rows, items, st, v, t);
     }
-    if kind == 1 {
+    if kind == OR {
         return seek_or(rows, words, items, st, v, t);
     }
-    if kind == 2 {
+    if kind == AND {
         return narrow(rows, words, items, st, v, t);
     }
-    if kind == 4 {
+    if kind == THEN {
         return narrow(rows, words, items, st, v, t);
     }
-    if kind == 0 {
-        return none();
+    if kind == ROW {
+        return skip(rows, words, items, st, v, t);
     }
-    if 6 < kind {
-        return none();
+    if kind == LESS {
+        return skip(rows, words, items, st, v, t);
     }
-    skip(rows, words, items, st, v, t)
+    if kind == MAX {
+        return skip(rows, words, items, st, v, t);
+    }
+    none()
 }
 
 // The front of v, found anew and kept.
 fn renew(
-    rows: &[usize; 128],
+    rows: &[usize; TABLE],
     words: &[u64],
     items: &[u32],
     st: &mut [u32; 128],
@@ -300,7 +312,7 @@ fn renew(
 
 // Brings node v to its first stretch that starts at or after t. What is kept of it serves where it can.
 pub(crate) fn seek(
-    rows: &[usize; 128],
+    rows: &[usize; TABLE],
     words: &[u64],
     items: &[u32],
     st: &mut [u32; 128],

@@ -1,7 +1,7 @@
--- A table of nodes in four columns of 32 numbers, and the list that each node stands for. Assumes nothing.
+-- A table of nodes in five columns of 32 numbers, and the list that each node stands for. Assumes nothing.
 use Prim.Native.Nat.{ℕ, zero, suc, _+_, _-_}
 use mathlib.Core.Path.{_≡_, refl}
-use mathlib.Core.Bool.{cond, _&&_}
+use mathlib.Core.Bool.{Bool, cond, _&&_, _||_}
 use mathlib.Core.List.{List, [], _∷_, _++_}
 use lib.ListN.{length, getD, replicate}
 use lib.Dec.{leb, ltb, eqb}
@@ -10,7 +10,7 @@ use Rattle.stretches.specs.Operators.{operatorOf, apply}
 
 -- ── The columns ──
 
--- node v's kind, an operator's number or another; the size of its subtree; its two numbers
+-- node v's kind, an operator's number or another; the size of its subtree; its numbers
 abbrev pub kindAt : List ℕ → ℕ → ℕ
 kindAt rows v = getD rows v 0
 
@@ -22,6 +22,13 @@ firstAt rows v = getD rows (64 + v) 0
 
 abbrev pub secondAt : List ℕ → ℕ → ℕ
 secondAt rows v = getD rows (96 + v) 0
+
+abbrev pub thirdAt : List ℕ → ℕ → ℕ
+thirdAt rows v = getD rows (128 + v) 0
+
+-- the kinds of a pattern's leaves
+abbrev pub leafKind : ℕ → Bool
+leafKind k = eqb k 16 || eqb k 17
 
 -- ── Operands: the first stands behind its operator, each next one behind the subtree of the one before ──
 
@@ -88,7 +95,7 @@ column l = l ++ replicate (32 - length l) 0
 
 -- less of then(node 2, node 3) by node 4
 abbrev sample : List ℕ
-sample = column (5 ∷ 4 ∷ 16 ∷ 16 ∷ 16 ∷ []) ++ column (5 ∷ 3 ∷ 1 ∷ 1 ∷ 1 ∷ []) ++ replicate 64 0
+sample = column (5 ∷ 4 ∷ 16 ∷ 16 ∷ 16 ∷ []) ++ column (5 ∷ 3 ∷ 1 ∷ 1 ∷ 1 ∷ []) ++ replicate 96 0
 
 -- lines 0 and 6; 2 and 8; 7
 abbrev owned : List (List Stretch)

@@ -1,15 +1,7 @@
 // Runs outside examples and writes a printed sheet for each: the unmarked cases of document 01, its printed sheet, and the query of
 // Figure 1 of document 001, over a log and over lists. What it must write was derived from the documents, not by this program.
+use basics::first;
 use libc::STDOUT_FILENO;
-ghost use mathlib.Core.Path.{_≡_};
-ghost use lib.ListN.{take};
-
-// The first n bytes; all where they are fewer.
-fn first(s: &[u8], n: usize) -> &[u8]
-    ensures { λ r. ⌜ now r ≡ take n (now (s .entry)) ⌝ }
-{
-    if n < s.len() { &s[..n] } else { s }
-}
 
 // Prints the sheet of a pattern and a log.
 fn show(pattern: &[u8], log: &[u8]) {

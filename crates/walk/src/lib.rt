@@ -1,5 +1,6 @@
 // The walk over all answers of a table's first node: some are passed over, the others written into cells.
 // rows, words, items and the state are as `seek` has them.
+use nodes::TABLE;
 ghost use Rattle.seek.specs.Source.{source};
 ghost use Rattle.walk.specs.Filling.{PassedOver, Put, FillAll, Within};
 
@@ -11,7 +12,7 @@ pub struct Walked {
 
 // Passes over n answers from line t0 on: the line from which the next is sought.
 fn pass_over(
-    rows: &[usize; 128],
+    rows: &[usize; TABLE],
     words: &[u64],
     items: &[u32],
     st: &mut [u32; 128],
@@ -36,7 +37,7 @@ fn pass_over(
 
 // Writes the answers from line t0 on into the cells, as many as whole pairs fit.
 fn put_all(
-    rows: &[usize; 128],
+    rows: &[usize; TABLE],
     words: &[u64],
     items: &[u32],
     st: &mut [u32; 128],
@@ -80,7 +81,7 @@ fn put_all(
 // Writes the answers of node 0 that start at or after `line`, from number `from` of them on, into the cells, start then end, as many as whole pairs
 // fit; later cells keep their contents. With a list that is not fine some stretches are written, no more than fit.
 pub fn fill(
-    rows: &[usize; 128],
+    rows: &[usize; TABLE],
     words: &[u64],
     items: &[u32],
     cells: &mut [u32],

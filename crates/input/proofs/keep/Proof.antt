@@ -47,7 +47,7 @@ returns-2 c =
     let a = c .before .before .before .before .before .args in
     let l = c .before .before .loop in
     let h = c .before .loop-test .left in
-    record { count = omega (arith, l .inv, c .least .ensures); bytes = sym (ap (sets (l .buffer) (l .at)) (drop-of-length-le (a .bytes .now) h)) ∙ l .inv .3 }
+    record { count = omega (arith, l .inv, c .shorter .ensures); bytes = sym (ap (sets (l .buffer) (l .at)) (drop-of-length-le (a .bytes .now) h)) ∙ l .inv .3 }
 
 pub keep-spec : {M : Type 1} → statement M
 keep-spec =

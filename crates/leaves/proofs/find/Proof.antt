@@ -18,10 +18,10 @@ loop-holds : tie.Need-loop-holds Inv-loop μ-loop
 loop-holds c = let a = c .before .args in (omega arith, c .held-of .ensures .1, found-start _ _ _ _ _ ∙ ap (λ (k : ℕ). numberIn (a .leaves .now) k (a .kind) (a .first) (a .second)) (c .held-of .ensures .0))
 
 returns : tie.Need-returns Inv-loop μ-loop
-returns c = (sym (found-here _ _ _ _ _ _ (omega arith) (sym (c .before .is-leaf .ensures) ∙ c .if1 .taken)) ∙ c .before .before .before .loop .inv .2, omega (arith, c .before .before .before .loop .inv .1))
+returns c = (sym (found-here _ _ _ _ _ _ (omega arith) (sym (c .before .has-numbers .ensures) ∙ c .if1 .taken)) ∙ c .before .before .before .loop .inv .2, omega (arith, c .before .before .before .loop .inv .1))
 
 loop-again : tie.Need-loop-again Inv-loop μ-loop
-loop-again c = (omega arith, c .before .before .before .loop .inv .1, sym (found-later _ _ _ _ _ _ (omega arith) (sym (c .before .is-leaf .ensures) ∙ c .if1 .left)) ∙ c .before .before .before .loop .inv .2)
+loop-again c = (omega arith, c .before .before .before .loop .inv .1, sym (found-later _ _ _ _ _ _ (omega arith) (sym (c .before .has-numbers .ensures) ∙ c .if1 .left)) ∙ c .before .before .before .loop .inv .2)
 
 returns-2 : tie.Need-returns-2 Inv-loop μ-loop
 returns-2 c = (found-none _ _ _ _ _ _ (c .before .loop .inv .0) (omega arith) ∙ c .before .loop .inv .2, c .before .loop .inv .1)

@@ -2,7 +2,7 @@
 use Prim.Native.Nat.{ℕ}
 use mathlib.Core.Path.{subst₂}
 use lib.ListN.{length}
-use Rattle.lists.specs.Table.{Laid}
+use Rattle.lists.specs.inner.Table.{Laid}
 use Rattle.lists.proofs.Fillings.{fill-refused, fill-kept, fills, fill-walked, fill-wrote}
 use borrow.Author.Needs.{needs}
 use Rattle.lists.proofs.fill.Statement.{statement}

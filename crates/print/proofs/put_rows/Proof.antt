@@ -36,8 +36,8 @@ put-field-requires c κs =
     omega (
       arith,
       length-turn (a .cells .now) (a .count) (l .i) (c .before .before .before .before .before .loop-test .taken) (c .before .before .before .before .before .before .before .before .before .pre .0),
-      ap (λ (n : ℕ). length (field n 44)) (c .before .before .before .wide .ensures),
-      ap (λ (n : ℕ). length (field n 10)) (c .before .wide2 .ensures),
+      ap (λ (n : ℕ). length (field n 44)) (c .before .before .before .wide .ensures .0),
+      ap (λ (n : ℕ). length (field n 10)) (c .before .wide2 .ensures .0),
     )
 
 put-field-requires-2 : tie.Need-put-field-requires-2 Inv-loop μ-loop
@@ -47,8 +47,8 @@ put-field-requires-2 c κs =
     omega (
       arith,
       length-turn (a .cells .now) (a .count) (l .i) (c .before .before .before .before .before .before .before .before .before .loop-test .taken) (c .before .before .before .before .before .before .before .before .before .before .before .before .before .pre .0),
-      ap (λ (n : ℕ). length (field n 44)) (c .before .before .before .before .before .before .before .wide .ensures),
-      ap (λ (n : ℕ). length (field n 10)) (c .before .before .before .before .before .wide2 .ensures),
+      ap (λ (n : ℕ). length (field n 44)) (c .before .before .before .before .before .before .before .wide .ensures .0),
+      ap (λ (n : ℕ). length (field n 10)) (c .before .before .before .before .before .wide2 .ensures .0),
     )
 
 loop-again : tie.Need-loop-again Inv-loop μ-loop
@@ -60,7 +60,7 @@ loop-again c =
     let p = c .before .before .before .before .before .before .put-field in
     let q = c .before .before .put-field2 in
     let t = rows-turn (a .cells .now) (a .count) (l .i) (c .before .before .before .before .before .before .before .before .before .before .before .before .loop-test .taken) (c .before .before .before .before .before .before .before .before .before .before .before .before .before .before .before .before .pre .0) (l .out) (p .last .0) (q .last .0) (l .place) (p .result) (q .result) (w .result) (v .result)
-    (w .ensures) (v .ensures) (p .ensures .0) (p .ensures .1) (q .ensures .0) (q .ensures .1) in
+    (w .ensures .0) (v .ensures .0) (p .ensures .0) (p .ensures .1) (q .ensures .0) (q .ensures .1) in
     (omega arith, omega arith, t .0 ∙ l .inv .2, t .1 ∙ l .inv .3)
 
 same-length : tie.Need-same-length Inv-loop μ-loop

@@ -32,7 +32,7 @@ returns c =
     let w = c .before .before .before .before .before .wide in
     let e = c .before .digits2 in
     let v = c .before .before .wide2 in
-    let t = digits-turn (a .cells .now) (a .count) (l .i) (c .before .before .before .before .before .before .before .loop-test .taken) (c .before .before .before .before .before .before .before .before .before .before .pre) (w .result) (v .result) (d .result) (e .result) (w .ensures) (v .ensures) (d .ensures .0) (e .ensures .0) in
+    let t = digits-turn (a .cells .now) (a .count) (l .i) (c .before .before .before .before .before .before .before .loop-test .taken) (c .before .before .before .before .before .before .before .before .before .before .pre) (w .result) (v .result) (d .result) (e .result) (w .ensures .0) (v .ensures .0) (d .ensures .0) (e .ensures .0) in
     sym (lt-leb (length (rows (take (a .count) (pairs (a .cells .now))))) (a .room) (omega (arith, t)))
 
 loop-again : tie.Need-loop-again Inv-loop μ-loop
@@ -43,7 +43,7 @@ loop-again c =
     let w = c .before .before .before .before .before .wide in
     let e = c .before .digits2 in
     let v = c .before .before .wide2 in
-    let t = digits-turn (a .cells .now) (a .count) (l .i) (c .before .before .before .before .before .before .before .loop-test .taken) (c .before .before .before .before .before .before .before .before .before .before .pre) (w .result) (v .result) (d .result) (e .result) (w .ensures) (v .ensures) (d .ensures .0) (e .ensures .0) in
+    let t = digits-turn (a .cells .now) (a .count) (l .i) (c .before .before .before .before .before .before .before .loop-test .taken) (c .before .before .before .before .before .before .before .before .before .before .pre) (w .result) (v .result) (d .result) (e .result) (w .ensures .0) (v .ensures .0) (d .ensures .0) (e .ensures .0) in
     omega (arith, t)
 
 returns-2 : tie.Need-returns-2 Inv-loop μ-loop

@@ -9,14 +9,14 @@ use Rattle.print.proofs.write_found.Tie as tie
 returns : tie.Need-returns
 returns c =
     let a = c .before .before .before .before .before .args in
-    let m = c .before .before .least in
+    let m = c .before .before .shorter in
     let f = c .before .found-fits in
     found-not (a .lines) (a .damaged) (a .count) (m .result) (a .cells .now) (a .out .now) (f .result) (m .ensures) (f .ensures) (c .if1 .taken)
 
 put-letter-requires : tie.Need-put-letter-requires
 put-letter-requires c κs =
     let a = c .before .before .before .before .before .before .args in
-    let m = c .before .before .before .least in
+    let m = c .before .before .before .shorter in
     let f = c .before .before .found-fits in
     let r = room-found (a .lines) (a .damaged) (m .result) (a .cells .now) (a .out .now) (f .result) (omega arith) (f .ensures) (c .before .if1 .left) in
     omega (arith, r)
@@ -24,7 +24,7 @@ put-letter-requires c κs =
 put-field-requires : tie.Need-put-field-requires
 put-field-requires c κs =
     let a = c .before .before .before .before .before .before .before .before .before .before .args in
-    let m = c .before .before .before .before .before .before .before .least in
+    let m = c .before .before .before .before .before .before .before .shorter in
     let f = c .before .before .before .before .before .before .found-fits in
     let r = room-found (a .lines) (a .damaged) (m .result) (a .cells .now) (a .out .now) (f .result) (omega arith) (f .ensures) (c .before .before .before .before .before .if1 .left) in
     omega (arith, r)
@@ -32,7 +32,7 @@ put-field-requires c κs =
 put-field-requires-2 : tie.Need-put-field-requires-2
 put-field-requires-2 c κs =
     let a = c .before .before .before .before .before .before .before .before .before .before .before .before .before .before .args in
-    let m = c .before .before .before .before .before .before .before .before .before .before .before .least in
+    let m = c .before .before .before .before .before .before .before .before .before .before .before .shorter in
     let f = c .before .before .before .before .before .before .before .before .before .before .found-fits in
     let r = room-found (a .lines) (a .damaged) (m .result) (a .cells .now) (a .out .now) (f .result) (omega arith) (f .ensures) (c .before .before .before .before .before .before .before .before .before .if1 .left) in
     omega (arith, r)
@@ -40,7 +40,7 @@ put-field-requires-2 c κs =
 put-field-requires-3 : tie.Need-put-field-requires-3
 put-field-requires-3 c κs =
     let a = c .before .before .before .before .before .before .before .before .before .before .before .before .before .before .before .before .before .before .args in
-    let m = c .before .before .before .before .before .before .before .before .before .before .before .before .before .before .before .least in
+    let m = c .before .before .before .before .before .before .before .before .before .before .before .before .before .before .before .shorter in
     let f = c .before .before .before .before .before .before .before .before .before .before .before .before .before .before .found-fits in
     let r = room-found (a .lines) (a .damaged) (m .result) (a .cells .now) (a .out .now) (f .result) (omega arith) (f .ensures) (c .before .before .before .before .before .before .before .before .before .before .before .before .before .if1 .left) in
     omega (arith, r)
@@ -48,7 +48,7 @@ put-field-requires-3 c κs =
 put-rows-requires : tie.Need-put-rows-requires
 put-rows-requires c κs =
     let a = c .before .before .before .before .before .before .before .before .before .before .before .before .before .before .before .before .before .before .before .before .before .before .args in
-    let m = c .before .before .before .before .before .before .before .before .before .before .before .before .before .before .before .before .before .before .before .least in
+    let m = c .before .before .before .before .before .before .before .before .before .before .before .before .before .before .before .before .before .before .before .shorter in
     let f = c .before .before .before .before .before .before .before .before .before .before .before .before .before .before .before .before .before .before .found-fits in
     let r = room-found (a .lines) (a .damaged) (m .result) (a .cells .now) (a .out .now) (f .result) (omega arith) (f .ensures) (c .before .before .before .before .before .before .before .before .before .before .before .before .before .before .before .before .before .if1 .left) in
     omega (arith, r)
@@ -56,7 +56,7 @@ put-rows-requires c κs =
 returns-2 : tie.Need-returns-2
 returns-2 c =
     let a = c .before .before .before .before .before .before .before .before .before .before .before .before .before .before .before .before .before .before .before .before .before .before .before .before .before .args in
-    let m = c .before .before .before .before .before .before .before .before .before .before .before .before .before .before .before .before .before .before .before .before .before .before .least in
+    let m = c .before .before .before .before .before .before .before .before .before .before .before .before .before .before .before .before .before .before .before .before .before .before .shorter in
     let f = c .before .before .before .before .before .before .before .before .before .before .before .before .before .before .before .before .before .before .before .before .before .found-fits in
     let r = room-found (a .lines) (a .damaged) (m .result) (a .cells .now) (a .out .now) (f .result) (omega arith) (f .ensures) (c .before .before .before .before .before .before .before .before .before .before .before .before .before .before .before .before .before .before .before .before .if1 .left) in
     let o₀ = c .before .before .before .before .before .before .before .before .before .before .before .before .before .before .before .before .before .before .put-letter in

@@ -13,10 +13,10 @@ use Rattle.seek.proofs.machine.+chain+filter+fresh+look_at+narrow+passe
 use Rattle.seek.proofs.machine.+chain+filter+fresh+look_at+narrow+passes+renew+seek+seek_or+skip+span.Proof.Common.{fresh-at, narrow-below, seek-or-below, skip-below}
 use mathlib.Core.Logic.{inl, inr}
 use Rattle.seek.proofs.State.{by-row, by-list, by-none}
-use Rattle.seek.proofs.Shapes.{skips-left}
+use Rattle.seek.proofs.Shapes.{none-left}
 
 abbrev R : ℕ → lts.Claims
-R t = (seek-row-reads.Asked, seek-row-reads.Learnt, seek-list-reads.Asked, seek-list-reads.Learnt, seek-or-below t, seek-or.Post, narrow-below t, narrow.Post, none-reads.Asked, none-reads.Learnt, skip-below t, skip.Post)
+R t = (seek-row-reads.Asked, seek-row-reads.Learnt, seek-list-reads.Asked, seek-list-reads.Learnt, seek-or-below t, seek-or.Post, narrow-below t, narrow.Post, skip-below t, skip.Post, none-reads.Asked, none-reads.Learnt)
 
 returns : (t : ℕ) → lts.Need-returns (R t) (fresh-at t) fresh.Post
 returns t c = by-row (omega (arith, c .before .before .before .before .before .pre .1)) (c .before .if1 .taken) (c .seek-row .ensures)
@@ -34,13 +34,16 @@ returns-5 : (t : ℕ) → lts.Need-returns-5 (R t) (fresh-at t) fresh.Post
 returns-5 t c = c .narrow2 .ensures (inr (c .before .before .if5 .taken))
 
 returns-6 : (t : ℕ) → lts.Need-returns-6 (R t) (fresh-at t) fresh.Post
-returns-6 t c = by-none (omega (arith, c .before .before .before .before .before .before .before .before .before .before .pre .1)) (inl (c .before .if6 .taken)) (c .before .before .before .before .before .before .if1 .left) (c .before .before .before .before .before .if2 .left) (c .none .ensures)
+returns-6 t c = c .skip .ensures (inl (c .before .before .if6 .taken))
 
 returns-7 : (t : ℕ) → lts.Need-returns-7 (R t) (fresh-at t) fresh.Post
-returns-7 t c = by-none (omega (arith, c .before .before .before .before .before .before .before .before .before .before .before .pre .1)) (inr (c .before .if7 .taken)) (c .before .before .before .before .before .before .before .if1 .left) (c .before .before .before .before .before .before .if2 .left) (c .none2 .ensures)
+returns-7 t c = c .skip2 .ensures (inr (inl (c .before .before .if7 .taken)))
 
 returns-8 : (t : ℕ) → lts.Need-returns-8 (R t) (fresh-at t) fresh.Post
-returns-8 t c = c .skip .ensures (skips-left _ (c .before .before .before .before .before .before .if3 .left) (c .before .before .before .before .before .if4 .left) (c .before .before .before .before .if5 .left) (c .before .before .before .if6 .left) (c .before .before .if7 .left))
+returns-8 t c = c .skip3 .ensures (inr (inr (c .before .before .if8 .taken)))
+
+returns-9 : (t : ℕ) → lts.Need-returns-9 (R t) (fresh-at t) fresh.Post
+returns-9 t c = by-none (omega (arith, c .before .before .before .before .before .before .before .before .before .before .before .before .pre .1)) (none-left _ (c .before .before .before .before .before .before .if3 .left) (c .before .before .before .before .before .if4 .left) (c .before .before .before .if6 .left) (c .before .before .before .before .if5 .left) (c .before .before .if7 .left) (c .before .if8 .left)) (c .before .before .before .before .before .before .before .before .if1 .left) (c .before .before .before .before .before .before .before .if2 .left) (c .none .ensures)
 
 pub proved : {M : Type 1} (t : ℕ) → lts.Closed (R t) (fresh-at t) fresh.Post M
-proved t = lts.spec (R t) (fresh-at t) fresh.Post (λ c. search needs) (λ c. search needs) (λ c κs. search needs) (returns t) (λ c κs. search needs) (returns-2 t) (λ c κs. search needs) (returns-3 t) (λ c κs. search needs) (returns-4 t) (λ c κs. search needs) (returns-5 t) (λ c κs. search needs) (returns-6 t) (λ c κs. search needs) (returns-7 t) (λ c κs. search needs) (returns-8 t)
+proved t = lts.spec (R t) (fresh-at t) fresh.Post (λ c. search needs) (λ c. search needs) (λ c κs. search needs) (returns t) (λ c κs. search needs) (returns-2 t) (λ c κs. search needs) (returns-3 t) (λ c κs. search needs) (returns-4 t) (λ c κs. search needs) (returns-5 t) (λ c κs. search needs) (returns-6 t) (λ c κs. search needs) (returns-7 t) (λ c κs. search needs) (returns-8 t) (λ c κs. search needs) (returns-9 t)

@@ -2,9 +2,9 @@
 use Prim.Native.Nat.{ℕ, _<_, _-_}
 use borrow.Author.Needs.{needs}
 use native.Mathlib.Omega.{arith}
-use Rattle.seek.proofs.fronts.least.Reads as least-reads
+use Rattle.basics.proofs.least.Reads as least-reads
 use Rattle.seek.proofs.fronts.look_of.Reads as look-of-reads
-use Rattle.seek.proofs.fronts.most.Reads as most-reads
+use Rattle.basics.proofs.most.Reads as most-reads
 use Rattle.seek.proofs.fronts.no_look.Reads as no-look-reads
 use Rattle.nodes.proofs.next_of.Reads as next-of-reads
 use Rattle.nodes.proofs.stop_of.Reads as stop-of-reads

@@ -1,0 +1,14 @@
+-- `nodes::is_leaf` meets its contract: each return by the tests that led there. Assumes nothing.
+use borrow.Author.Tests.{eq-eqb, ne-eqb}
+use borrow.Author.Needs.{needs}
+use Rattle.nodes.proofs.is_leaf.Statement.{statement}
+use Rattle.nodes.proofs.is_leaf.Tie as tie
+
+returns : tie.Need-returns
+returns c = simp (eq-eqb _ _ (c .if1 .taken))
+
+returns-2 : tie.Need-returns-2
+returns-2 c = simp (ne-eqb _ _ (c .if1 .left))
+
+pub is-leaf-spec : {M : Type 1} → statement M
+is-leaf-spec = tie.close (tie.spec returns returns-2)
