@@ -46,18 +46,6 @@ module _ (rows : List ℕ) (width free stop : ℕ) (s : stop ≤ 32) where
 
 -- ── The cleared row ──
 
--- one word more
-pub clear-turn : (words ws : List ℕ) (to k : ℕ) → to + k < length words → ws ≡ withRow words to k [] → set ws (to + k) 0 ≡ withRow words to (k + 1) []
-clear-turn words ws to k h e =
-    let m : ℕ = 64 * k - 0 in
-    let n : ℕ = 64 * suc k - 0 in
-    let z : m + 64 ≡ n = omega arith in
-    let y : suc k ≡ k + 1 = omega arith in
-    ap (λ (x : List ℕ). set x (to + k) 0) (e ∙ sym (with-clear words to k [] (omega arith)))
-    ∙ with-more words to k (replicate m false) 0 h (omega (arith, length-replicate {A = Bool} m false)) (omega arith)
-    ∙ ap (withRow words to (suc k)) (ap (λ (x : List Bool). replicate m false ++ x) (bits-zero 64) ∙ replicate-append-replicate m 64 false ∙ ap (λ (x : ℕ). replicate x false) z)
-    ∙ with-clear words to (suc k) [] (omega arith) ∙ ap (λ (x : ℕ). withRow words to x []) y
-
 -- ── The united row ──
 
 module _ (rows : List ℕ) (to width stop : ℕ) (s : stop ≤ 32) where

@@ -8,10 +8,8 @@ use nodes::TABLE;
 use nodes::next_of;
 use nodes::stop_of;
 ghost use mathlib.Core.Path.{_≡_};
-ghost use mathlib.Core.List.{[]};
-ghost use Prim.Native.Nat.{_+_, _<_, _≤_};
+ghost use Prim.Native.Nat.{_<_};
 ghost use Rattle.stretches.specs.Table.{operandNumbers};
-ghost use Rattle.marks.specs.Row.{withRow};
 ghost use Rattle.folding.specs.Fold.{folding, rowBefore, rowsBefore, withLeaf, foldOr, maxFolded, foldNode, folded, unitedAll};
 
 // Whether node v is a row of this width that ends at or before place `free`.
@@ -47,17 +45,6 @@ fn all_rows(rows: &[usize; TABLE], width: usize, free: usize, v: usize) -> bool
     true
 }
 
-fn clear(words: &mut [u64], to: usize, width: usize)
-    requires { do ⌜ to + width ≤ (← ⟦words.len()⟧) ⌝ }
-    ensures { λ _. ⌜ now (words .exit) ≡ withRow (now (words .entry)) to width [] ⌝ }
-{
-    let mut k = 0;
-    while k < width {
-        words[to + k] = 0;
-        k += 1;
-    }
-}
-
 // Unites the row from place `to` on with the rows of v's operands.
 fn unite_all(rows: &[usize; TABLE], words: &mut [u64], to: usize, width: usize, v: usize)
     requires { ⌜ v < 32 ⌝ }
@@ -66,7 +53,7 @@ fn unite_all(rows: &[usize; TABLE], words: &mut [u64], to: usize, width: usize, 
     let stop = stop_of(rows, v);
     let mut u = v + 1;
     while u < stop {
-        marks::unite(words, to, rows[64 + u], width);
+        row_union::unite(words, to, rows[64 + u], width);
         u = next_of(rows, u);
     }
 }
@@ -97,7 +84,7 @@ fn fold_or(
     if !all_rows(rows, width, free, v) {
         return free;
     }
-    clear(words, free, width);
+    row_union::clear(words, free, width);
     unite_all(rows, words, free, width, v);
     put_row(rows, v, free, width);
     free + width

@@ -6,8 +6,5 @@ pub mod Packed
 pub mod WithRow
 pub mod Changes
 pub mod Changing
-pub mod Seeking
-pub mod Counting
 pub mod United
-pub mod Uniting
 pub mod Packing

@@ -1,11 +1,10 @@
--- Rows, changes, fronts, counts and united rows worked out. Assumes nothing.
+-- Rows, changes, counts and united rows worked out. Assumes nothing.
 use mathlib.Core.Path.{_≡_, refl}
 use mathlib.Core.Bool.{true, false}
 use mathlib.Core.List.{[], _∷_, _++_}
 use lib.ListN.{replicate}
 use Rattle.stretches.specs.Stretch.{st, marks}
-use Rattle.stretches.specs.Front.{firstFrom}
-use Rattle.marks.specs.Row.{bits, number, flags, row, changed, found, trues, marked, packed, withRow, united}
+use Rattle.marks.specs.Row.{bits, number, flags, row, changed, trues, marked, packed, withRow, united}
 
 -- the lowest bit first
 ex-bits : bits 4 5 ≡ true ∷ false ∷ true ∷ false ∷ []
@@ -35,14 +34,6 @@ ex-unset = refl
 ex-past : changed true (9 ∷ 5 ∷ 1 ∷ []) 1 2 128 ≡ 9 ∷ 5 ∷ 1 ∷ []
 unfolding changed
 ex-past = refl
-
-ex-next : found (firstFrom (marks 0 (row (9 ∷ 5 ∷ 1 ∷ []) 1 2)) 3) ≡ record { hit = true; line = 64 }
-unfolding found row flags bits
-ex-next = refl
-
-ex-no-next : found (firstFrom (marks 0 (row (9 ∷ 5 ∷ 1 ∷ []) 1 2)) 65) ≡ record { hit = false; line = 0 }
-unfolding found row flags bits
-ex-no-next = refl
 
 -- lines 2 and 64
 ex-count : marked (row (9 ∷ 5 ∷ 1 ∷ []) 1 2) 1 64 ≡ 2

@@ -1,12 +1,10 @@
 -- Rows of marks in words of 64 bits: line p of a row is bit p mod 64, the lowest being bit 0, of the row's word p div 64. Assumes nothing.
 use Prim.Native.Nat.{ℕ, zero, suc, _+_, _-_, _*_, _/_, _%_, _^_}
-use mathlib.Core.Bool.{Bool, true, false, cond, _&&_, _||_}
+use mathlib.Core.Bool.{Bool, cond, _&&_, _||_}
 use mathlib.Core.List.{List, [], _∷_, _++_}
 use lib.ListN.{length, getD, take, drop, set}
 use lib.Dec.{leb, ltb, eqb}
-use Rattle.stretches.specs.Front.{Front, None, At}
 use Rattle.stretches.specs.Stretch.{either}
-use Rattle.marks.specs.declared.Found.{Found}
 
 -- the d lowest bits of a number, the lowest first
 unfoldable pub bits : ℕ → ℕ → List Bool
@@ -43,11 +41,6 @@ withLine b words at p = set words (at + p / 64) (withBit b (getD words (at + p /
 unfoldable pub changed : Bool → List ℕ → ℕ → ℕ → ℕ → List ℕ
 changed b words at width p = cond (lies (length words) at width && ltb p (64 * width)) (withLine b words at p) words
 
--- the first line of a front; where there is none, line 0
-unfoldable pub found : Front → Found
-found None = record { hit = false; line = 0 }
-found (At x) = record { hit = true; line = x .start }
-
 -- how many are true
 unfoldable pub trues : List Bool → ℕ
 trues [] = zero
@@ -65,6 +58,10 @@ packed (suc w) bs = number (take 64 bs) ∷ packed w (drop 64 bs)
 -- the words with the row of width words from place at on made these lines
 unfoldable pub withRow : List ℕ → ℕ → ℕ → List Bool → List ℕ
 withRow words at width bs = take at words ++ (packed width bs ++ drop (at + width) words)
+
+-- the words with the row clear; unchanged where it does not lie inside the words
+abbrev pub cleared : List ℕ → ℕ → ℕ → List ℕ
+cleared words at width = cond (lies (length words) at width) (withRow words at width []) words
 
 -- two rows of width words, from place to on and from place at on, share no word
 abbrev pub apart : ℕ → ℕ → ℕ → Bool

@@ -18,8 +18,9 @@ use Rattle.stretches.specs.Front.{None, At, firstFrom}
 use Rattle.stretches.proofs.Fronts.{front-good}
 use Rattle.stretches.proofs.Marks.{in-marks, rising-marks}
 use Rattle.stretches.proofs.Lent.{part-cons, part-nil}
-use Rattle.marks.specs.Row.{row, found}
-use Rattle.marks.specs.declared.Found as marked
+use Rattle.marks.specs.Row.{row}
+use Rattle.row_search.specs.Found.{found}
+use Rattle.row_search.specs.declared.Found as marked
 use Rattle.seek.specs.declared.Front.{Front}
 use Rattle.seek.specs.Source.{lent}
 use Rattle.seek.specs.Fronts.{atF, noneF, front}

@@ -26,7 +26,7 @@ pub(crate) fn seek_row(rows: &[usize; TABLE], words: &[u64], v: usize, t: u32) -
     requires { ⌜ v < 32 ⌝ }
     ensures { λ r. ⌜ RowFound (now (words .entry)) (firstAt (now (rows .entry)) v) (secondAt (now (rows .entry)) v) t r ⌝ }
 {
-    let f = marks::next(words, rows[64 + v], rows[96 + v], t as usize);
+    let f = row_search::next(words, rows[64 + v], rows[96 + v], t as usize);
     if f.hit {
         return at_line(f.line);
     }

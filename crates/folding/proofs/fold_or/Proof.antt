@@ -1,5 +1,5 @@
 -- `folding::fold_or` meets its contract: each return is one law. Assumes nothing.
-use mathlib.Core.Path.{_≡_}
+use mathlib.Core.Path.{_≡_, sym, _∙_}
 use mathlib.Core.Bool.{true, false}
 use native.Mathlib.Omega.{arith}
 use lib.ListN.{length}
@@ -7,6 +7,7 @@ use borrow.Author.Needs.{needs}
 use Rattle.stretches.specs.Table.{operandNumbers}
 use Rattle.marks.specs.Row.{lies}
 use Rattle.marks.proofs.Rows.{said-yes, said-no, lies-true}
+use Rattle.row_union.proofs.Clearing.{cleared-is}
 use Rattle.folding.specs.Fold.{rowsBefore}
 use Rattle.folding.proofs.FoldSteps.{or-full, or-other, or-made}
 use Rattle.folding.proofs.fold_or.Statement.{statement}
@@ -30,9 +31,6 @@ returns-2 c =
     let a = c .before .before .before .before .before .before .args in
     or-other (a .rows .now) (a .words .now) (a .width) (a .free) (a .v) (room (c .before .before .before)) (other c)
 
-clear-requires : tie.Need-clear-requires
-clear-requires c κs = let a = c .before .before .before .before .before .before .before .args in lies-true (length (a .words .now)) (a .free) (a .width) (room (c .before .before .before .before)) .0
-
 add-result : tie.Need-add-result
 add-result c =
     let d = c .before .before .before .before .before .before .before .before .before .before .before .before .before .before in
@@ -44,7 +42,7 @@ returns-3 c =
     let d = c .before .before .before .before .before .before .before .before .before .before .before in
     let a = d .before .before .before .before .before .before .args in
     or-made (a .rows .now) (a .words .now) (a .width) (a .free) (a .v) (room (d .before .before .before)) (all d)
-    (c .before .before .before .before .before .before .before .before .before .clear .ensures) (c .before .before .before .before .unite-all .ensures) (c .put-row .ensures)
+    (c .before .before .before .before .before .before .before .before .before .clear .ensures ∙ sym (cleared-is (a .words .now) (a .free) (a .width) (room (d .before .before .before)))) (c .before .before .before .before .unite-all .ensures) (c .put-row .ensures)
 
 pub fold-or-spec : {M : Type 1} → statement M
-fold-or-spec = tie.close (tie.spec (λ c κs. search needs) returns (λ c κs. search needs) returns-2 clear-requires (λ c κs. search needs) (λ c κs. search needs) add-result (λ c. search needs) returns-3)
+fold-or-spec = tie.close (tie.spec (λ c κs. search needs) returns (λ c κs. search needs) returns-2 (λ c κs. search needs) (λ c κs. search needs) (λ c κs. search needs) add-result (λ c. search needs) returns-3)

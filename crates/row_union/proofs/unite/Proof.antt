@@ -1,16 +1,16 @@
--- `marks::unite` meets its contract. The loop's invariant: the first k words of the rows are united. Assumes nothing.
+-- `row_union::unite` meets its contract. The loop's invariant: the first k words of the rows are united. Assumes nothing.
 use Prim.Native.Nat.{_+_, _-_}
 use mathlib.Core.Path.{ap, ap₂, _∙_}
 use mathlib.Core.Bool.{Bool, _&&_}
 use native.Mathlib.Omega.{arith}
 use lib.ListN.{length}
 use borrow.Author.Needs.{needs}
 use Rattle.marks.specs.Row.{lies, apart}
 use Rattle.marks.proofs.Rows.{Within, let-in, said-yes, said-no}
 use Rattle.marks.proofs.United.{united-not}
-use Rattle.marks.proofs.Uniting.{Uniting, begin, turn, finish}
-use Rattle.marks.proofs.unite.Statement.{statement}
-use Rattle.marks.proofs.unite.Tie as tie
+use Rattle.row_union.proofs.Uniting.{Uniting, begin, turn, finish}
+use Rattle.row_union.proofs.unite.Statement.{statement}
+use Rattle.row_union.proofs.unite.Tie as tie
 
 abbrev Inv-loop : tie.InvT-loop
 Inv-loop words₀ to at width k₀ words k = Uniting words₀ words to at width k

@@ -1,11 +1,11 @@
--- `marks::separate` meets its contract: the distance of the two rows is compared. Assumes nothing.
+-- `row_union::separate` meets its contract: the distance of the two rows is compared. Assumes nothing.
 use Prim.Native.Nat.{_-_}
 use mathlib.Core.Logic.{inl, inr}
 use native.Mathlib.Omega.{arith}
 use borrow.Author.Needs.{needs}
-use Rattle.marks.proofs.Uniting.{separated}
-use Rattle.marks.proofs.separate.Statement.{statement}
-use Rattle.marks.proofs.separate.Tie as tie
+use Rattle.row_union.proofs.Uniting.{separated}
+use Rattle.row_union.proofs.separate.Statement.{statement}
+use Rattle.row_union.proofs.separate.Tie as tie
 
 returns : tie.Need-returns
 returns c = let a = c .before .args in separated (a .to) (a .at) (a .width) (a .at - a .to) (inl (omega arith))

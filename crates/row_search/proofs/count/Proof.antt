@@ -1,11 +1,11 @@
--- `marks::count` meets its contract. The loop holds what it has counted and the place that it has come to, and passes a word a turn. Assumes nothing.
+-- `row_search::count` meets its contract. The loop holds what it has counted and the place that it has come to, and passes a word a turn. Assumes nothing.
 use Prim.Native.Nat.{_+_, _-_, _/_}
 use native.Mathlib.Omega.{arith}
 use borrow.Author.Needs.{needs}
 use Rattle.marks.proofs.Rows.{Within, let-in, said-yes, said-no}
-use Rattle.marks.proofs.Counting.{Counted, none-outside, none-past, none-between, begin, no-more, turn, last}
-use Rattle.marks.proofs.count.Statement.{statement}
-use Rattle.marks.proofs.count.Tie as tie
+use Rattle.row_search.proofs.Counting.{Counted, none-outside, none-past, none-between, begin, no-more, turn, last}
+use Rattle.row_search.proofs.count.Statement.{statement}
+use Rattle.row_search.proofs.count.Tie as tie
 
 abbrev Inv-loop : tie.InvT-loop
 Inv-loop words at width s e k₀ n₀ room₀ left₀ w₀ k n room left w = Counted words at width s e k n room left w

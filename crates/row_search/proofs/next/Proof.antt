@@ -1,14 +1,14 @@
--- `marks::next` meets its contract. The loop holds the place that it has come to, and passes a word a turn. Assumes nothing.
+-- `row_search::next` meets its contract. The loop holds the place that it has come to, and passes a word a turn. Assumes nothing.
 use Prim.Native.Nat.{_+_, _-_, _/_}
 use mathlib.Core.Path.{sym, ap, subst}
 use native.Mathlib.Omega.{arith}
 use lib.Count.{trailing-le}
 use borrow.Author.Needs.{needs}
-use Rattle.marks.specs.Row.{found}
+use Rattle.row_search.specs.Found.{found}
 use Rattle.marks.proofs.Rows.{Within, let-in, said-yes, said-no}
-use Rattle.marks.proofs.Seeking.{Sought, nowhere, past-all, begin, no-more, turn, hit}
-use Rattle.marks.proofs.next.Statement.{statement}
-use Rattle.marks.proofs.next.Tie as tie
+use Rattle.row_search.proofs.Seeking.{Sought, nowhere, past-all, begin, no-more, turn, hit}
+use Rattle.row_search.proofs.next.Statement.{statement}
+use Rattle.row_search.proofs.next.Tie as tie
 
 abbrev Inv-loop : tie.InvT-loop
 Inv-loop words at width t k₀ line₀ w₀ k line w = Sought words at width t k line w
