@@ -9,7 +9,7 @@ use lib.Dec.{ltb, eqb}
 use borrow.Author.Tests.{lt-ltb, ltb-true, ltb-false, eqb-true, eqb-false}
 use native.Mathlib.Omega.{arith}
 use Rattle.basics.proofs.Basics.{cases, and-true, true-and, le-or-lt}
-use mathlib.Core.Logic.{_⊎_, inl, inr}
+use mathlib.Core.Logic.{_⊎_, _≢_, inl, inr}
 use Rattle.stretches.specs.Stretch.{Stretch, st, Rising}
 use Rattle.stretches.specs.Front.{onward, headOf, nth}
 use Rattle.stretches.specs.Filling.{flat, pairsIn, written, filled, moreAfter}
@@ -22,8 +22,8 @@ use Rattle.meaning.proofs.Finding.{refused-list}
 use Rattle.finder.specs.declared.Finder.{Finder}
 use Rattle.finder.specs.declared.Stepped.{Stepped}
 use Rattle.finder.specs.declared.Answer.the-variants as answer
-use Rattle.finder.specs.Promises.{rowsIn, listIn, among, waits, handed, none, offered, lineAfter, refilled, stepOver, stepped}
-use Rattle.finder.specs.Whole.{answerOf, after}
+use Rattle.finder.specs.Promises.{rowsIn, listIn, among, waits, handed, none, offered, lineAfter, refilled, stepOver, opened, stepped}
+use Rattle.finder.specs.Whole.{answerOf, after, afterAll}
 use Rattle.finder.proofs.Calls.{fine-in, list-in}
 
 distinct : _≡_ {A = Bool} true false → ⊥
@@ -191,9 +191,10 @@ step-rows l f = cases (f .live) (λ b. cond b (cond (waits f || f .used) (offere
     offered-rows : (g : Finder) → offered g .finder .rows ≡ g .rows
     offered-rows g = cases (waits g) (λ b. cond b (handed g) (none g) .finder .rows ≡ g .rows) (λ e. refl) (λ e. refl)
 
-step-live : (l : List Stretch) (f : Finder) → f .live ≡ false → stepOver l f ≡ none f
+-- a finder that is not live says none and stays the same, whatever the log
+pub closed-none : (f : Finder) (log : List ℕ) → f .live ≡ false → stepped f log ≡ none f
 unfolding stepOver
-step-live l f e = ap (λ b. cond b (cond (waits f || f .used) (offered f) (offered (refilled l f))) (none f)) e
+closed-none f log e = ap (λ b. cond b (cond (waits f || f .used) (offered f) (offered (refilled (listIn (f .rows) log) f))) (none f)) e
 
 module _ (pattern log : List ℕ) where
   -- accepted
@@ -235,13 +236,13 @@ module _ (pattern log : List ℕ) where
     closed-after : (n : ℕ) → after pattern log n .live ≡ false
     unfolding after
     closed-after zero = no
-    closed-after (suc n) = let f = after pattern log n in ap (λ (r : Stepped). r .finder .live) (step-live (listIn (f .rows) log) f (closed-after n)) ∙ closed-after n
+    closed-after (suc n) = let f = after pattern log n in ap (λ (r : Stepped). r .finder .live) (closed-none f log (closed-after n)) ∙ closed-after n
 
     answer-refused : (n : ℕ) → stepped (after pattern log n) log .answer ≡ answerOf (nth (listOf pattern log) n)
     answer-refused n =
         let f = after pattern log n in
         let empty : listOf pattern log ≡ [] = refused-list pattern log (refusal pattern log) refl (omega (arith, eqb-false (refusal pattern log .number) 0 no)) in
-        ap (λ (r : Stepped). r .answer) (step-live (listIn (f .rows) log) f (closed-after n))
+        ap (λ (r : Stepped). r .answer) (closed-none f log (closed-after n))
         ∙ sym (ap (λ (m : List Stretch). answerOf (nth m n)) empty ∙ ap (λ (m : List Stretch). answerOf (headOf m)) (drop-nil n))
 
   -- the step after n steps gives number n of the list, and past its end none
@@ -254,15 +255,28 @@ module _ (pattern log : List ℕ) where
 
 -- ── After none ──
 
+-- a finder that says none with every log says so after any steps
+stays : (f : Finder) → ((log : List ℕ) → stepped f log ≡ none f) → (logs : List (List ℕ)) (log : List ℕ) → stepped (afterAll f logs) log ≡ none f
+stays f h [] log = h log
+stays f h (x ∷ logs) log = ap (λ (r : Stepped). stepped (afterAll (r .finder) logs) log) (h x) ∙ stays f h logs log
+
+-- a refused opening gives a finder that only says none, whatever the logs
+pub refused-none : (pattern log : List ℕ) → opened pattern log .number ≢ 0 → (logs : List (List ℕ)) (log′ : List ℕ)
+    → stepped (afterAll (opened pattern log .finder) logs) log′ ≡ none (opened pattern log .finder)
+refused-none pattern log n =
+    let f = opened pattern log .finder in
+    let shut : f .live ≡ false = cases (eqb (refusal pattern log .number) 0) (λ b. b ≡ false) (λ e. absurd (n (eqb-true (refusal pattern log .number) 0 e))) (λ e. refl) in
+    stays f (λ log′. closed-none f log′ shut)
+
 -- a finder that is not live, or is used up with nothing waiting
 abbrev Shut : Finder → Type 0
 Shut f = (f .live ≡ false) ⊎ ((waits f ≡ false) × (f .used ≡ true))
 
-shut-none : (f : Finder) → Shut f → (l : List Stretch) → stepOver l f ≡ none f
+shut-none : (f : Finder) → Shut f → (log : List ℕ) → stepped f log ≡ none f
 unfolding stepOver
-shut-none f (inl h) l = step-live l f h
-shut-none f (inr h) l =
-    ap₂ (λ t u. cond (f .live) (cond (t || u) (cond t (handed f) (none f)) (offered (refilled l f))) (none f)) (h .0) (h .1) ∙ cases (f .live) (λ b. cond b (none f) (none f) ≡ none f) (λ e. refl) (λ e. refl)
+shut-none f (inl h) log = closed-none f log h
+shut-none f (inr h) log =
+    ap₂ (λ t u. cond (f .live) (cond (t || u) (cond t (handed f) (none f)) (offered (refilled (listIn (f .rows) log) f))) (none f)) (h .0) (h .1) ∙ cases (f .live) (λ b. cond b (none f) (none f) ≡ none f) (λ e. refl) (λ e. refl)
 
 -- a finder that offers none, and has nothing more to seek
 offers-none : (f : Finder) → (waits f ≡ false → f .used ≡ true) → offered f .answer ≡ answer.None → Shut (offered f .finder)
@@ -287,5 +301,6 @@ step-shut l f wide = cases (f .live) (λ b. f .live ≡ b → by b .answer ≡ a
     used e = ap (λ (xs : List Stretch). not (moreAfter xs 0 (f .found))) e ∙ ap not (nothing-more (pairsIn (f .found)))
 
 -- after "none" comes "none", whatever the logs
-pub none-stays : (f : Finder) → length (f .found) ≡ 128 → (log log′ : List ℕ) → stepped f log .answer ≡ answer.None → stepped (stepped f log .finder) log′ ≡ none (stepped f log .finder)
-none-stays f wide log log′ e = let g = stepped f log .finder in shut-none g (step-shut (listIn (f .rows) log) f wide e) (listIn (g .rows) log′)
+pub none-stays : (f : Finder) → length (f .found) ≡ 128 → (log : List ℕ) → stepped f log .answer ≡ answer.None
+    → (logs : List (List ℕ)) (log′ : List ℕ) → stepped (afterAll (stepped f log .finder) logs) log′ ≡ none (stepped f log .finder)
+none-stays f wide log e = let g = stepped f log .finder in stays g (shut-none g (step-shut (listIn (f .rows) log) f wide e))

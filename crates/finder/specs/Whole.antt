@@ -25,6 +25,11 @@ unfoldable pub after : List ℕ → List ℕ → ℕ → Finder
 after pattern log zero = opened pattern log .finder
 after pattern log (suc n) = stepped (after pattern log n) log .finder
 
+-- the finder after steps with these logs, whatever they are
+abbrev pub afterAll : Finder → List (List ℕ) → Finder
+afterAll f [] = f
+afterAll f (log ∷ logs) = afterAll (stepped f log .finder) logs
+
 -- the stretches of the steps up to the first "none"
 pub data Steps (log : List ℕ) : Finder → List s.Stretch → Type 0 where
   last : {f : Finder} → stepped f log .answer ≡ None → Steps log f []
