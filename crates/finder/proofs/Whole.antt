@@ -12,13 +12,13 @@ use Rattle.stretches.specs.Filling.{moreAfter}
 use Rattle.stretches.specs.Run.{cut}
 use Rattle.stretches.proofs.Filling.{filled-front, done-all, room-done, drop-step}
 use Rattle.lines.specs.Lines.{lines, Whole}
-use Rattle.meaning.specs.Refusals.{refusal, accepted}
+use Rattle.meaning.specs.Refusals.{Refusal, refusal, accepted}
 use Rattle.meaning.specs.Finding.{listOf}
-use Rattle.meaning.proofs.Finding.{run-list}
+use Rattle.meaning.proofs.Finding.{good-pattern, accepted-number, run-accepted, run-list}
 use Rattle.finder.specs.declared.Finder.{Finder}
 use Rattle.finder.specs.declared.Answer.the-variants.{None, Stretch}
 use Rattle.finder.specs.Promises.{stepped}
-use Rattle.finder.specs.Whole.{answerOf, after, Steps, last, more, Taken, Written, Shown}
+use Rattle.finder.specs.Whole.{answerOf, after, Accepted, Steps, last, more, Taken, Written, Shown}
 use Rattle.finder.proofs.Stepping.{step-answer}
 
 -- ── The steps ──
@@ -74,21 +74,33 @@ module _ (pattern log : List ℕ) where
   shown-list xs (inl t) = taken-list xs t
   shown-list xs (inr w) = written-list xs w
 
+-- ── Acceptance ──
+
+-- neither call refuses exactly if the table of refusals has none
+pub accepted-only : (pattern log : List ℕ) → Accepted pattern log → refusal pattern log ≡ accepted
+accepted-only pattern log a = let k = accepted-number pattern log (a .opens) in good-pattern pattern log (k .tree) (k .brief) (k .reads)
+
+pub accepted-there : (pattern log : List ℕ) → refusal pattern log ≡ accepted → Accepted pattern log
+accepted-there pattern log e = let z : refusal pattern log .number ≡ 0 = ap (λ (r : Refusal). r .number) e in record { opens = z; fills = λ from cells. z }
+
 -- ── Demand 3 ──
 
--- a run of whole lines decides its own stretches: whatever whole lines precede it and whatever follows it in an accepted log, the stretches that lie
--- wholly within it, counted from its first line, are those of the run alone, in the same order, whichever way they are taken
-pub run-decides : (pattern a run b : List ℕ) → Whole a → Whole run → refusal pattern (a ++ (run ++ b)) ≡ accepted
-    → (xs ys : List s.Stretch) → Shown pattern (a ++ (run ++ b)) xs → Shown pattern run ys
-    → cut (length (lines a)) (length (lines run)) xs ≡ ys
-run-decides pattern a run b wa wr ok xs ys p q =
-    ap (cut (length (lines a)) (length (lines run))) (shown-list pattern (a ++ (run ++ b)) xs p) ∙ run-list pattern a run b ok wa wr ∙ sym (shown-list pattern run ys q)
+-- a run of whole lines decides its own stretches: whatever whole lines precede it and whatever follows it in an accepted log, the run alone is accepted,
+-- and the stretches that lie wholly within it, counted from its first line, are those of the run alone, in the same order, whichever way they are taken
+pub run-decides : (pattern a run b : List ℕ) → Whole a → Whole run → Accepted pattern (a ++ (run ++ b))
+    → Accepted pattern run × ((xs ys : List s.Stretch) → Shown pattern (a ++ (run ++ b)) xs → Shown pattern run ys
+    → cut (length (lines a)) (length (lines run)) xs ≡ ys)
+run-decides pattern a run b wa wr ok =
+    let e = accepted-only pattern (a ++ (run ++ b)) ok in (
+      accepted-there pattern run (run-accepted pattern a run b e),
+      λ xs ys p q. ap (cut (length (lines a)) (length (lines run))) (shown-list pattern (a ++ (run ++ b)) xs p) ∙ run-list pattern a run b e wa wr ∙ sym (shown-list pattern run ys q),
+    )
 
 -- the same run in two accepted logs, at any two places
 pub runs-agree : (pattern a b c d run : List ℕ) → Whole a → Whole c → Whole run
-    → refusal pattern (a ++ (run ++ b)) ≡ accepted → refusal pattern (c ++ (run ++ d)) ≡ accepted
+    → Accepted pattern (a ++ (run ++ b)) → Accepted pattern (c ++ (run ++ d))
     → (xs ys : List s.Stretch) → Shown pattern (a ++ (run ++ b)) xs → Shown pattern (c ++ (run ++ d)) ys
     → cut (length (lines a)) (length (lines run)) xs ≡ cut (length (lines c)) (length (lines run)) ys
 runs-agree pattern a b c d run wa wc wr ok ok′ xs ys p q =
-    ap (cut (length (lines a)) (length (lines run))) (shown-list pattern (a ++ (run ++ b)) xs p) ∙ run-list pattern a run b ok wa wr
-    ∙ sym (ap (cut (length (lines c)) (length (lines run))) (shown-list pattern (c ++ (run ++ d)) ys q) ∙ run-list pattern c run d ok′ wc wr)
+    let l = listOf pattern run in
+    run-decides pattern a run b wa wr ok .1 xs l p (inl (taken-there pattern run)) ∙ sym (run-decides pattern c run d wc wr ok′ .1 ys l q (inl (taken-there pattern run)))

@@ -1,4 +1,4 @@
--- The finder after n steps, and the stretches of a pattern in a log as the calls give them: the paper's "The undamaged run". Assumes nothing.
+-- The finder after n steps, acceptance, and the stretches of a pattern in a log as the calls give them: the paper's "The undamaged run". Assumes nothing.
 use Prim.Native.Nat.{ℕ, zero, suc, _*_}
 use mathlib.Core.Path.{_≡_}
 use mathlib.Core.Logic.{_⊎_}
@@ -29,6 +29,11 @@ after pattern log (suc n) = stepped (after pattern log n) log .finder
 abbrev pub afterAll : Finder → List (List ℕ) → Finder
 afterAll f [] = f
 afterAll f (log ∷ logs) = afterAll (stepped f log .finder) logs
+
+-- accepted: neither the opening nor the filling call refuses them, whatever the cells and the first number
+pub record Accepted (pattern log : List ℕ) : Type 0 where
+  pub opens : opened pattern log .number ≡ 0
+  pub fills : (from : ℕ) (cells : List ℕ) → filling pattern log from cells .number ≡ 0
 
 -- the stretches of the steps up to the first "none"
 pub data Steps (log : List ℕ) : Finder → List s.Stretch → Type 0 where
