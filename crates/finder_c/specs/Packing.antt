@@ -1,5 +1,6 @@
--- A call's result in one number of 64 bits, as include/finder.h has it. Assumes nothing.
-use Prim.Native.Nat.{ℕ, _+_, _*_}
+-- A call's result in one number of 64 bits, and the parts of it, as include/finder.h has them. Assumes nothing.
+use Prim.Native.Nat.{ℕ, _+_, _*_, _/_, _%_, _^_, _<_}
+use mathlib.Core.Path.{_≡_}
 use mathlib.Core.Bool.{Bool, cond}
 use Rattle.meaning.specs.declared.Filled.{Filled}
 use Rattle.taking.specs.declared.Taken.{Taken}
@@ -14,3 +15,42 @@ packedFill r = r .number + 256 * bit (r .more) + 65536 * r .place + 4294967296 *
 -- bits 0 to 7 the refusal's number (0: accepted), bit 8 set where there is an answer, bits 16 to 31 its start, bits 32 to 47 its end
 abbrev pub packedTaken : Taken → ℕ
 packedTaken r = r .number + 256 * bit (r .found) + 65536 * r .start + 4294967296 * r .end
+
+-- ── The parts of a result ──
+
+-- n >> k & (2 ^ m - 1) is n / 2 ^ k % 2 ^ m
+
+-- finder_refusal: & 0xff
+abbrev pub refusalIn : ℕ → ℕ
+refusalIn w = w % 256
+
+-- finder_more, finder_taken: >> 8 & 1
+abbrev pub flagIn : ℕ → ℕ
+flagIn w = w / 256 % 2
+
+-- finder_place, finder_taken_start: >> 16 & 0xffff
+abbrev pub placeIn : ℕ → ℕ
+placeIn w = w / 65536 % 65536
+
+-- finder_written: >> 32
+abbrev pub writtenIn : ℕ → ℕ
+writtenIn w = w / 4294967296
+
+-- finder_taken_end: >> 32 & 0xffff
+abbrev pub endIn : ℕ → ℕ
+endIn w = w / 4294967296 % 65536
+
+-- the word has 64 bits, and its parts are the result
+pub record ReadsFill (w : ℕ) (r : Filled) : Type 0 where
+  pub fits : w < 2 ^ 64
+  pub number : refusalIn w ≡ r .number
+  pub more : flagIn w ≡ bit (r .more)
+  pub place : placeIn w ≡ r .place
+  pub count : writtenIn w ≡ r .count
+
+pub record ReadsTaken (w : ℕ) (r : Taken) : Type 0 where
+  pub fits : w < 2 ^ 64
+  pub number : refusalIn w ≡ r .number
+  pub found : flagIn w ≡ bit (r .found)
+  pub start : placeIn w ≡ r .start
+  pub end : endIn w ≡ r .end
