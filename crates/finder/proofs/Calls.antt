@@ -17,8 +17,7 @@ use Rattle.stretches.proofs.Fine.{fine-none, fine-marks}
 use Rattle.stretches.proofs.Steps.{in-onward, onward-all}
 use Rattle.stretches.proofs.Table.{fine-list}
 use Rattle.lines.specs.Lines.{lines}
-use Rattle.event_log.specs.Line.{meaning}
-use Rattle.event_log.specs.Reading.{says}
+use Rattle.records.specs.Line.{meaning, says}
 use Rattle.lines.proofs.LinesLaws.{cut-few}
 use Rattle.pattern.specs.Answer.{numberOf, placeOf}
 use Rattle.pattern.specs.Reading as pattern

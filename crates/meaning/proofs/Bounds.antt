@@ -8,7 +8,7 @@ use lib.Dec.{ltb}
 use borrow.Author.Tests.{ltb-true, ltb-false}
 use native.Mathlib.Omega.{arith}
 use Rattle.lines.proofs.LinesLaws.{cut-few}
-use Rattle.event_log.specs.Reading.{says}
+use Rattle.records.specs.Line.{says}
 use Rattle.pattern.specs.Answer.{noTable, Says, numberOf, placeOf}
 use Rattle.pattern.specs.Reading.{Outcome, Accepts, Refuses, outcomeOf, verdictOf}
 use Rattle.pattern.specs.declared.Verdict.{Verdict}

@@ -10,7 +10,7 @@ use borrow.Author.Tests.{ltb-true, ltb-false, lt-ltb, le-ltb, eqb-true}
 use native.Mathlib.Omega.{arith}
 use Rattle.stretches.specs.Run.{cut}
 use Rattle.lines.specs.Lines.{lines, Whole}
-use Rattle.event_log.specs.Reading.{says}
+use Rattle.records.specs.Line.{says}
 use Rattle.pattern.specs.Pattern.{Pattern}
 use Rattle.pattern.specs.Reading.{Outcome, Accepts, Refuses, outcomeOf}
 use Rattle.pattern.proofs.Outcomes.{refuses-says}

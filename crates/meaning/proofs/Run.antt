@@ -6,10 +6,9 @@ use mathlib.Core.List.{List, _++_}
 use lib.ListN.{length, length-map}
 use Rattle.stretches.specs.Run.{cut}
 use Rattle.lines.specs.Lines.{lines, Whole}
-use Rattle.event_log.specs.Line.{meaning}
-use Rattle.event_log.specs.Reading.{says}
-use Rattle.event_log.specs.declared.Line.{Line}
-use Rattle.event_log.proofs.Through.{says-run}
+use Rattle.records.specs.Line.{meaning, says}
+use Rattle.records.specs.declared.Line.{Line}
+use Rattle.records.proofs.Walk.{says-run}
 use Rattle.pattern.specs.Pattern.{Pattern}
 use Rattle.meaning.specs.Meaning.{answersOf, answersIn}
 use Rattle.meaning.proofs.Tree.{run-lines}

@@ -7,8 +7,8 @@ use Rattle.stretches.specs.Stretch.{Stretch, marks}
 use Rattle.stretches.specs.Operators.{operatorOf, apply}
 use Rattle.stretches.specs.Table.{sizeAt, secondAt, nextOf, stopOf, listAt, operandsFrom, operandsOf}
 use Rattle.stretches.proofs.Table.{next-is, stop-is, from-more, from-end, list-node}
-use Rattle.event_log.specs.declared.Line.{Line}
-use Rattle.event_log.specs.Reading.{says}
+use Rattle.records.specs.declared.Line.{Line}
+use Rattle.records.specs.Line.{says}
 use Rattle.pattern.specs.Pattern.{Symbol, Pattern, Patterns, Node, Nil, Cons, nodes, nodesOf}
 use Rattle.pattern.specs.Rows.{kindOf, firstOf, secondOf, Entry, Tree, Trees}
 use Rattle.meaning.specs.Meaning.{hits, measureIn, eval, evals, overLines, answersIn, overTable, tableIn}

@@ -15,7 +15,7 @@ use Rattle.stretches.proofs.Window.{Window, Windows, or-alike, and-alike, row-a
 use Rattle.stretches.proofs.Cut.{window-cut}
 use Rattle.stretches.proofs.Marks.{window-marks}
 use Rattle.stretches.proofs.Steps.{rising-length}
-use Rattle.event_log.specs.declared.Line.{Line}
+use Rattle.records.specs.declared.Line.{Line}
 use Rattle.pattern.specs.Pattern.{Symbol, Ev, Fr, Or, And, Row, Then, Less, Max, Pattern, Patterns, Node, Nil, Cons}
 use Rattle.meaning.specs.Meaning.{Valuation, matches, operator, eval, evals, overLines, answersOf}
 

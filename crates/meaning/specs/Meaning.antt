@@ -10,9 +10,9 @@ use Rattle.stretches.specs.Stretch as s
 use Rattle.stretches.specs.Stretch.{Stretch, Op, marks, lengthOf}
 use Rattle.stretches.specs.Operators.{operatorOf, apply}
 use Rattle.stretches.specs.Table.{kindAt, firstAt, secondAt, Given, listAt}
-use Rattle.event_log.specs.declared.Line.{Line}
-use Rattle.event_log.specs.Reading.{says}
-use Rattle.event_log.specs.Leaf.{codeIs, frameIs}
+use Rattle.records.specs.declared.Line.{Line}
+use Rattle.records.specs.Line.{says}
+use Rattle.records.specs.Leaf.{codeIs, frameIs}
 use Rattle.pattern.specs.Pattern.{Symbol, Ev, Fr, Or, And, Row, Then, Less, Max, Pattern, Patterns, Node, Nil, Cons}
 use Rattle.pattern.specs.Rows.{kindOf, firstOf, secondOf}
 

@@ -20,9 +20,9 @@ use Rattle.stretches.proofs.Table.{list-node, same-lists}
 use Rattle.marks.specs.Row.{flags, lies, row, packed}
 use Rattle.marks.proofs.Rows.{true-lies, row-words}
 use Rattle.marks.proofs.Packed.{length-packed, flags-packed-short}
-use Rattle.event_log.specs.declared.Line.{Line}
-use Rattle.event_log.specs.Reading.{says}
-use Rattle.event_log.specs.Leaf.{codeIs, frameIs}
+use Rattle.records.specs.declared.Line.{Line}
+use Rattle.records.specs.Line.{says}
+use Rattle.records.specs.Leaf.{codeIs, frameIs}
 use Rattle.meaning.specs.Meaning.{hits, overTable}
 use Rattle.seek.specs.Source.{source, lent, ownList, given, listOf, Good}
 use Rattle.folding.specs.Fold.{Folding, folding, withLeaf, folded}

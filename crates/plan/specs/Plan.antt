@@ -5,7 +5,7 @@ use mathlib.Core.List.{List}
 use lib.ListN.{length, replicate}
 use Rattle.stretches.specs.Table.{kindAt, firstAt, secondAt, leafKind}
 use Rattle.folding.specs.Fold.{Folding, folding, withLeaf, folded}
-use Rattle.event_log.specs.Reading.{says}
+use Rattle.records.specs.Line.{says}
 use Rattle.leaves.specs.Leaves.{numberIn, leavesOf}
 use Rattle.marking.specs.Rows.{fit, marked}
 

@@ -13,9 +13,9 @@ use native.Mathlib.Omega.{arith}
 use Rattle.stretches.specs.Stretch.{Stretch}
 use Rattle.stretches.proofs.Answers.{Sound}
 use Rattle.stretches.proofs.Cut.{Below}
-use Rattle.event_log.specs.Reading.{says}
+use Rattle.records.specs.Line.{says}
 use Rattle.lines.proofs.LinesLaws.{cut-few}
-use Rattle.event_log.proofs.Walk.{damaged-few}
+use Rattle.records.proofs.Walk.{damaged-few}
 use Rattle.basics.proofs.Basics.{le-or-lt}
 use Rattle.pattern.proofs.Outcomes.{refuses-long}
 use Rattle.meaning.specs.declared.Filled.{Filled}

@@ -3,7 +3,7 @@ use mathlib.Core.Path.{sym, ap, _∙_}
 use Prim.Native.Nat.{ℕ, _+_, _/_}
 use lib.ListN.{length-map}
 use Rattle.lines.specs.Lines.{lines}
-use Rattle.event_log.specs.Line.{meaning}
+use Rattle.records.specs.Line.{meaning}
 use Rattle.lines.proofs.LinesLaws.{cut-few}
 use borrow.Author.Needs.{needs}
 use native.Mathlib.Omega.{arith}
