@@ -25,6 +25,10 @@ flags (w ∷ ws) = bits 64 w ++ flags ws
 abbrev pub lies : ℕ → ℕ → ℕ → Bool
 lies len at width = leb (at + width) len && ltb (64 * width) (2 ^ 64)
 
+-- n rows of w words each fit into so many words; a row of more than 1,024 words, the lines of 65,536, never does
+abbrev pub fit : ℕ → ℕ → ℕ → Bool
+fit n w len = leb w 1024 && leb (n * w) len
+
 -- the row of width words from place at on: its lines, each marked or not; a row that does not lie inside the words has no line
 unfoldable pub row : List ℕ → ℕ → ℕ → List Bool
 row words at width = cond (lies (length words) at width) (flags (take width (drop at words))) []

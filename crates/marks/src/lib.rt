@@ -2,7 +2,7 @@
 // its word p div 64. A row that does not lie inside the words, or has 2^64 lines or more, has no line.
 ghost use mathlib.Core.Path.{_≡_};
 ghost use mathlib.Core.Bool.{true, false};
-ghost use Rattle.marks.specs.Row.{lies, changed};
+ghost use Rattle.marks.specs.Row.{lies, fit, changed};
 
 // Whether a row lies inside so many words, and a usize holds the number of its lines.
 pub fn inside(len: usize, at: usize, width: usize) -> bool
@@ -15,6 +15,19 @@ pub fn inside(len: usize, at: usize, width: usize) -> bool
         return false;
     }
     width < 0x400_0000_0000_0000
+}
+
+// Whether n rows of `width` words each, at most 1,024, fit into so many words.
+pub fn fit(n: usize, width: usize, len: usize) -> bool
+    ensures { λ r. ⌜ r ≡ fit n width len ⌝ }
+{
+    if 1024 < width {
+        return false;
+    }
+    if width == 0 {
+        return true;
+    }
+    n <= len / width
 }
 
 // Marks line p of the row; every other bit stays. Where the row has no line p, all stay.

@@ -17,7 +17,7 @@ use Rattle.stretches.specs.Table.{kindAt, sizeAt, firstAt, secondAt, leafKind, 
 use Rattle.stretches.proofs.Fine.{fine-marks}
 use Rattle.stretches.proofs.Marks.{marks-clear}
 use Rattle.stretches.proofs.Table.{list-node, same-lists}
-use Rattle.marks.specs.Row.{flags, lies, row, packed}
+use Rattle.marks.specs.Row.{flags, lies, row, packed, fit}
 use Rattle.marks.proofs.Rows.{true-lies, row-words}
 use Rattle.marks.proofs.Packed.{length-packed, flags-packed-short}
 use Rattle.records.specs.declared.Line.{Line}
@@ -30,7 +30,7 @@ use Rattle.seek.proofs.Nodes.{no-operator}
 use Rattle.folding.proofs.FoldLeaf.{Before, leaf-wide, leaf-kind, leaf-first, leaf-second, leaf-size, else-kind, else-first, else-second}
 use Rattle.folding.proofs.FoldLaws.{fold-lists, fold-good}
 use Rattle.leaves.specs.Leaves.{held, numberIn, Gathered, are, leavesOf}
-use Rattle.marking.specs.Rows.{leafHits, rowsFrom, fit, rowsThen, marked}
+use Rattle.marking.specs.Rows.{leafHits, rowsFrom, rowsThen, marked}
 use Rattle.plan.specs.Plan.{planNode, plannedTo, planned, prepared}
 use Rattle.leaves.proofs.Gathering.{leaf-few, leaf-found, leaf-is}
 use Rattle.marking.proofs.Marking.{then-length}

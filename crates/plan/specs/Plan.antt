@@ -7,7 +7,8 @@ use Rattle.stretches.specs.Table.{kindAt, firstAt, secondAt, leafKind}
 use Rattle.folding.specs.Fold.{Folding, folding, withLeaf, folded}
 use Rattle.records.specs.Line.{says}
 use Rattle.leaves.specs.Leaves.{numberIn, leavesOf}
-use Rattle.marking.specs.Rows.{fit, marked}
+use Rattle.marks.specs.Row.{fit}
+use Rattle.marking.specs.Rows.{marked}
 
 -- how many words a row of the log's lines has
 abbrev pub widthOf : List ℕ → ℕ

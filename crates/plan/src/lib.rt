@@ -3,13 +3,13 @@
 use leaves::find;
 use leaves::gather;
 use marking::mark;
+use marks::fit;
 use nodes::MARKS;
 use nodes::NODES;
 use nodes::TABLE;
 use nodes::is_leaf;
 ghost use mathlib.Core.Path.{_≡_};
 ghost use Prim.Native.Nat.{_≤_, _<_};
-ghost use Rattle.marking.specs.Rows.{fit};
 ghost use Rattle.plan.specs.Plan.{widthOf, planNode, planned, prepared};
 
 // How many words a row of the log's lines has.
@@ -17,17 +17,6 @@ pub fn width(log: &[u8]) -> usize
     ensures { λ r. ⌜ r ≡ widthOf (now (log .entry)) ⌝ }
 {
     (lines::line_count(log) + 63) / 64
-}
-
-// Whether n rows of `width` words each, at most 1,024, fit into so many words.
-fn has_room(n: usize, width: usize, len: usize) -> bool
-    requires { ⌜ n ≤ 64 ⌝ }
-    ensures { λ r. ⌜ r ≡ fit n width len ⌝ }
-{
-    if 1024 < width {
-        return false;
-    }
-    n * width <= len
 }
 
 // Node v: a leaf becomes the row of its number.
@@ -64,7 +53,7 @@ pub fn prepare(rows: &[usize; TABLE], log: &[u8], width: usize, words: &mut [u64
 {
     let mut leaves = [0usize; 192];
     let n = gather(rows, &mut leaves, 0);
-    if !has_room(n, width, words.len()) {
+    if !fit(n, width, words.len()) {
         return [0usize; TABLE];
     }
     mark(log, &leaves, n, width, words);
