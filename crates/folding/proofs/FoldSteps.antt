@@ -4,9 +4,9 @@ use Prim.Native.Nat.{ℕ, suc, _+_, _-_, _*_, _≤_, _<_}
 use mathlib.Core.Path.{_≡_, sym, ap, ap₂, _∙_}
 use mathlib.Core.Logic.{inl, inr}
 use mathlib.Core.Bool.{Bool, true, false, cond, _&&_}
-use mathlib.Core.List.{List, [], _∷_, _++_, map}
+use mathlib.Core.List.{List, [], _∷_, map}
 use native.Mathlib.Omega.{arith}
-use lib.ListN.{length, set, replicate, length-replicate, replicate-append-replicate}
+use lib.ListN.{length, replicate, length-replicate}
 use lib.Dec.{leb, eqb}
 use borrow.Author.Tests.{leb-true, leb-false, eq-eqb, ne-eqb, le-leb, lt-leb, le-ltb, lt-ltb}
 use Rattle.basics.proofs.Basics.{cases}
@@ -15,11 +15,11 @@ use Rattle.stretches.specs.Table.{kindAt, firstAt, secondAt, nextOf, stopOf, op
 use Rattle.stretches.proofs.Table.{up-more, up-end}
 use Rattle.stretches.proofs.Union.{either-none, either-three, either-clear}
 use Rattle.marks.specs.Row.{lies, row, withRow, united}
-use Rattle.marks.proofs.Bits.{bits-zero}
 use Rattle.marks.proofs.Rows.{lies-true, true-lies, row-length}
 use Rattle.marks.proofs.United.{true-apart, united-is, length-either}
-use Rattle.marks.proofs.WithRow.{with-length, with-other, with-row, with-again, with-clear, with-more}
-use Rattle.folding.specs.Fold.{Folding, folding, rowBefore, rowsBefore, withLeaf, foldOr, maxFolded, foldNode, folded, unitedAll}
+use Rattle.marks.proofs.WithRow.{with-length, with-other, with-row, with-again, with-clear}
+use Rattle.folding.specs.Fold.{Folding, folding, rowBefore, rowsBefore, withLeaf, foldOr, maxFolded, foldNode, folded}
+use Rattle.folding.specs.inner.Uniting.{unitedAll}
 use Rattle.folding.proofs.FoldLaws.{are-rows, any-most}
 
 -- ── Rows in use ──

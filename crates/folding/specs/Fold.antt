@@ -6,7 +6,7 @@ use lib.ListN.{length, set}
 use lib.Dec.{leb, ltb, eqb}
 use Rattle.stretches.specs.Stretch.{anyOf}
 use Rattle.stretches.specs.Table.{kindAt, firstAt, secondAt, stopOf, operandNumbers}
-use Rattle.marks.specs.Row.{lies, row, withRow, united}
+use Rattle.marks.specs.Row.{lies, row, withRow}
 
 -- a table and its words, and the place behind the last row in use
 pub record Folding : Type 0 where
@@ -57,10 +57,3 @@ foldNode width v f =
 unfoldable pub folded : ℕ → ℕ → Folding → Folding
 folded width zero f = f
 folded width (suc n) f = foldNode width (31 - n) (folded width n f)
-
--- ── On the way ──
-
--- the words with the row from place to on united with the rows of these nodes, one after the other
-unfoldable pub unitedAll : List ℕ → List ℕ → ℕ → ℕ → List ℕ → List ℕ
-unitedAll rows words to width [] = words
-unitedAll rows words to width (c ∷ cs) = unitedAll rows (united words to (firstAt rows c) width) to width cs

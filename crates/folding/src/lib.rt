@@ -10,7 +10,8 @@ use nodes::stop_of;
 ghost use mathlib.Core.Path.{_≡_};
 ghost use Prim.Native.Nat.{_<_};
 ghost use Rattle.stretches.specs.Table.{operandNumbers};
-ghost use Rattle.folding.specs.Fold.{folding, rowBefore, rowsBefore, withLeaf, foldOr, maxFolded, foldNode, folded, unitedAll};
+ghost use Rattle.folding.specs.Fold.{folding, rowBefore, rowsBefore, withLeaf, foldOr, maxFolded, foldNode, folded};
+ghost use Rattle.folding.specs.inner.Uniting.{unitedAll};
 
 // Whether node v is a row of this width that ends at or before place `free`.
 fn is_row(rows: &[usize; TABLE], width: usize, free: usize, v: usize) -> bool

@@ -13,7 +13,8 @@ use native.Mathlib.Omega.{arith}
 use Rattle.basics.proofs.Basics.{cases, le-or-lt}
 use Rattle.input.specs.declared.Taken.{Taken}
 use Rattle.input.specs.declared.Parting.{Parting}
-use Rattle.input.specs.Input.{patternOf, logOf, feedIn, patternPart, logPart, Parts, Kept, TakenIn, Holds, Keeps}
+use Rattle.input.specs.Input.{patternOf, logOf, feedIn, patternPart, logPart, Kept, TakenIn, Holds, Keeps}
+use Rattle.input.specs.inner.Parting.{Parts}
 
 -- ── The first line feed ──
 

@@ -1,14 +1,13 @@
 -- Standard input: the pattern up to the first line feed (or the end), then the log; taken in piece by piece, and kept as far as two lent buffers hold.
 -- Assumes nothing.
-use Prim.Native.Nat.{ℕ, _+_, _≤_, min}
+use Prim.Native.Nat.{ℕ, _+_, min}
 use mathlib.Core.Path.{_≡_}
 use mathlib.Core.Bool.{Bool, false, cond, _||_}
 use mathlib.Core.List.{List, [], _∷_}
-use lib.ListN.{length, take, drop}
+use lib.ListN.{length, take}
 use lib.Seq.{sets}
 use lib.Dec.{eqb}
 use Rattle.input.specs.declared.Taken.{Taken}
-use Rattle.input.specs.declared.Parting.{Parting}
 
 -- the pattern: the bytes up to the first line feed, or the end
 abbrev pub patternOf : List ℕ → List ℕ
@@ -31,13 +30,6 @@ patternPart ended piece = cond ended [] (patternOf piece)
 
 abbrev pub logPart : Bool → List ℕ → List ℕ
 logPart ended piece = cond ended piece (logOf piece)
-
--- where a piece parts: the pattern's part is before `cut`, the log's from `next` on
-pub record Parts (piece : List ℕ) (before : Bool) (r : Parting) : Type 0 where
-  pub ended : r .ended ≡ before || feedIn piece
-  pub front : take (r .cut) piece ≡ patternPart before piece
-  pub back : drop (r .next) piece ≡ logPart before piece
-  pub within : (r .cut ≤ length piece) × (r .next ≤ length piece)
 
 -- the bytes go behind those used, as far as the buffer goes
 pub record Kept (buffer : List ℕ) (used : ℕ) (added : List ℕ) (r : ℕ) (buffer′ : List ℕ) : Type 0 where

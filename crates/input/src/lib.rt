@@ -3,7 +3,8 @@ use basics::shorter;
 ghost use mathlib.Core.Path.{_≡_};
 ghost use Prim.Native.Nat.{min};
 ghost use lib.ListN.{length};
-ghost use Rattle.input.specs.Input.{patternOf, Parts, Kept, TakenIn};
+ghost use Rattle.input.specs.Input.{patternOf, Kept, TakenIn};
+ghost use Rattle.input.specs.inner.Parting.{Parts};
 
 // What has been taken in: whether the pattern's line feed has come, and how many bytes of pattern and log are kept.
 pub struct Taken {

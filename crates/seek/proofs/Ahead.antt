@@ -10,9 +10,8 @@ use Rattle.stretches.proofs.Fronts.{front-good}
 use Rattle.stretches.proofs.Steps.{onward-none, onward-at}
 use Rattle.seek.specs.declared.Front.{Front}
 use Rattle.seek.specs.Source.{Source, listOf, Good}
-use Rattle.seek.specs.Fronts.{atF, noneF, front}
-use Rattle.seek.specs.Seek.{first, Sought}
-use Rattle.seek.specs.Steps.{FirstOf, Ahead}
+use Rattle.seek.specs.First.{atF, noneF, front, first, FirstOf, Ahead}
+use Rattle.seek.specs.inner.Looks.{Sought}
 use Rattle.seek.proofs.Nodes.{fine}
 
 -- ── A front and what is left ──

@@ -18,7 +18,8 @@ use Rattle.stretches.proofs.Cut.{Below, AllBelow}
 use Rattle.stretches.proofs.Orders.{ends-true, ends-false}
 use Rattle.stretches.specs.Taking.{endsFirst}
 use Rattle.seek.specs.declared.Front.{Front}
-use Rattle.seek.specs.Fronts.{atF, noneF, front, betterOf}
+use Rattle.seek.specs.First.{atF, noneF, front}
+use Rattle.seek.specs.inner.Fronts.{betterOf}
 
 -- a front that ends below 65,536
 abbrev Small : fronts.Front → Type 0

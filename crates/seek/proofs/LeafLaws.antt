@@ -23,8 +23,8 @@ use Rattle.row_search.specs.Found.{found}
 use Rattle.row_search.specs.declared.Found as marked
 use Rattle.seek.specs.declared.Front.{Front}
 use Rattle.seek.specs.Source.{lent}
-use Rattle.seek.specs.Fronts.{atF, noneF, front}
-use Rattle.seek.specs.Leaves.{Resumed, Ran, Hinted, ListFound, RowFound}
+use Rattle.seek.specs.First.{atF, noneF, front}
+use Rattle.seek.specs.inner.Leaves.{Resumed, Ran, Hinted, ListFound, RowFound}
 
 -- ── A list from a place on ──
 

@@ -19,8 +19,9 @@ use Rattle.stretches.proofs.Tight.{Gone, Tight, gone-front, and-tight, and-gone
 use Rattle.seek.specs.declared.Front.{Front}
 use Rattle.seek.specs.declared.fronts.Look.{Look}
 use Rattle.seek.specs.Source.{Source, measured}
-use Rattle.seek.specs.Fronts.{atF, front, pastOf, lookOf, noLook, goF}
-use Rattle.seek.specs.Seek.{spanFrom, chainFrom, clears}
+use Rattle.seek.specs.First.{atF, front}
+use Rattle.seek.specs.inner.Fronts.{pastOf, lookOf, noLook, goF}
+use Rattle.seek.specs.inner.Looks.{spanFrom, chainFrom, clears}
 
 none-at : (x : Stretch) → None ≡ At x → ⊥
 none-at x e = let z : _≡_ {A = ℕ} 0 1 = cc in omega arith

@@ -22,8 +22,8 @@ use Rattle.stretches.proofs.Table.{list-node, all-operands, fine-list}
 use Rattle.stretches.proofs.Tight.{Tight}
 use Rattle.marks.specs.Row.{row}
 use Rattle.seek.specs.Source.{Source, measured, lent, ownList, given, listOf, Good}
-use Rattle.seek.specs.Fronts.{noneF, front}
-use Rattle.seek.specs.Seek.{first, lookBy, look, Narrows, Skips}
+use Rattle.seek.specs.First.{noneF, front, first}
+use Rattle.seek.specs.inner.Looks.{lookBy, look, Narrows, Skips}
 use Rattle.seek.proofs.Looks.{TightLook, t-none, SkipLook, k-none, and-look, then-look, row-look, less-look, max-look}
 
 -- ── Fronts ──

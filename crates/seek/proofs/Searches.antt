@@ -12,8 +12,8 @@ use Rattle.stretches.proofs.Tight.{Gone, Tight, gone-front, tight-front, tight-
 use Rattle.seek.specs.declared.Front.{Front}
 use Rattle.seek.specs.declared.fronts.Look.{Look}
 use Rattle.seek.specs.Source.{Source, listOf, Good}
-use Rattle.seek.specs.Fronts.{atF, noneF, front}
-use Rattle.seek.specs.Seek.{first, look, Ready, Sought, Looked, Narrows, Skips}
+use Rattle.seek.specs.First.{atF, noneF, front, first, Ready}
+use Rattle.seek.specs.inner.Looks.{look, Sought, Looked, Narrows, Skips}
 use Rattle.seek.proofs.Looks.{TightLook, t-none, t-some, SkipLook, k-none, k-good, k-bad}
 use Rattle.seek.proofs.Nodes.{past, Narrowing, small-cand, narrowing, skipping}
 

@@ -13,9 +13,10 @@ use Rattle.stretches.specs.Table.{kindAt, firstAt, secondAt}
 use Rattle.basics.proofs.Basics.{eq-or-ne}
 use Rattle.seek.specs.declared.Front.{Front}
 use Rattle.seek.specs.Source.{Source, Good}
-use Rattle.seek.specs.Fronts.{atF, noneF, front, pastOf, Serves, heldAt, askedAt, putAt}
-use Rattle.seek.specs.Seek.{first, Ready, Sought}
-use Rattle.seek.specs.Leaves.{Hinted, ListFound, RowFound}
+use Rattle.seek.specs.First.{atF, noneF, front, heldAt, askedAt, first, Ready}
+use Rattle.seek.specs.inner.Fronts.{pastOf, Serves, putAt}
+use Rattle.seek.specs.inner.Looks.{Sought}
+use Rattle.seek.specs.inner.Leaves.{Hinted, ListFound, RowFound}
 use Rattle.seek.proofs.Looks.{past-is}
 use Rattle.seek.proofs.Nodes.{fine, first-small, stays, row-list, lent-list, no-list}
 

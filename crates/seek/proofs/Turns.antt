@@ -15,8 +15,9 @@ use Rattle.stretches.proofs.Table.{stop-most, from-more, from-end}
 use Rattle.seek.specs.declared.Front.{Front}
 use Rattle.seek.specs.declared.fronts.Look.{Look}
 use Rattle.seek.specs.Source.{Source, measured, given, listOf, Good}
-use Rattle.seek.specs.Fronts.{atF, noneF, front, pastOf, lookOf, noLook, goF, betterOf}
-use Rattle.seek.specs.Seek.{first, spanFrom, chainFrom, clears, passes, others, lookBy, look, Ready, Sought, Looked, Passed, Tested, Chains, Filters}
+use Rattle.seek.specs.First.{atF, noneF, front, first, Ready}
+use Rattle.seek.specs.inner.Fronts.{pastOf, lookOf, noLook, goF, betterOf}
+use Rattle.seek.specs.inner.Looks.{spanFrom, chainFrom, clears, passes, others, lookBy, look, Sought, Looked, Passed, Tested, Chains, Filters}
 use Rattle.seek.proofs.Best.{bestFrom, or-look}
 use Rattle.seek.proofs.Nodes.{fine-operands, or-list, look-kind}
 

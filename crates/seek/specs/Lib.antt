@@ -1,5 +1,3 @@
 pub mod Source
-pub mod Fronts
-pub mod Seek
-pub mod Leaves
-pub mod Steps
+pub mod First
+pub mod inner

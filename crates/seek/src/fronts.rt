@@ -7,7 +7,8 @@ ghost use Prim.Native.Nat.{_<_};
 ghost use lib.Dec.{eqb};
 ghost use Rattle.stretches.specs.Stretch.{st};
 ghost use Rattle.seek.specs.Source.{measured, source};
-ghost use Rattle.seek.specs.Fronts.{noneF, atF, pastOf, noLook, lookOf, betterOf, Serves, putAt};
+ghost use Rattle.seek.specs.First.{noneF, atF};
+ghost use Rattle.seek.specs.inner.Fronts.{pastOf, noLook, lookOf, betterOf, Serves, putAt};
 
 // A front that may have to be passed over: good where it need not.
 pub struct Look {

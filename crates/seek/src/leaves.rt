@@ -7,8 +7,8 @@ use nodes::TABLE;
 ghost use mathlib.Core.Path.{_≡_};
 ghost use Prim.Native.Nat.{_<_, _≤_};
 ghost use Rattle.stretches.specs.Table.{firstAt, secondAt};
-ghost use Rattle.seek.specs.Fronts.{atF};
-ghost use Rattle.seek.specs.Leaves.{Resumed, Ran, ListFound, RowFound};
+ghost use Rattle.seek.specs.First.{atF};
+ghost use Rattle.seek.specs.inner.Leaves.{Resumed, Ran, ListFound, RowFound};
 
 // The front of one line; none from line 65,536 on.
 fn at_line(line: usize) -> Front

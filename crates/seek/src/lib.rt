@@ -11,7 +11,7 @@ mod machine;
 use nodes::NODES;
 use nodes::TABLE;
 ghost use Rattle.seek.specs.Source.{source};
-ghost use Rattle.seek.specs.Steps.{FirstOf, Ahead};
+ghost use Rattle.seek.specs.First.{FirstOf, Ahead};
 
 // The stretch from start to end; none where both are 65,536, one past every line.
 pub struct Front {

@@ -31,7 +31,7 @@ ghost use mathlib.Core.Path.{_≡_};
 ghost use Prim.Native.Nat.{_+_, _<_};
 ghost use Rattle.stretches.specs.Table.{kindAt, stopOf};
 ghost use Rattle.seek.specs.Source.{source};
-ghost use Rattle.seek.specs.Seek.{Chains, Narrows, Filters, Skips, Sought, Looked, Tested};
+ghost use Rattle.seek.specs.inner.Looks.{Chains, Narrows, Filters, Skips, Sought, Looked, Tested};
 
 // `or`: the best of the operands' fronts.
 fn seek_or(

@@ -1,7 +1,7 @@
 -- What an accepted taking call has, and what its result and cells then are. Assumes nothing.
 use Prim.Native.Nat.{ℕ, zero, suc, _≤_}
 use mathlib.Core.Path.{_≡_, refl, sym, ap, ap₂, _∙_}
-use mathlib.Core.Bool.{Bool, true, false, not, cond, _&&_, _||_}
+use mathlib.Core.Bool.{true, false, not, cond, _&&_, _||_}
 use mathlib.Core.List.{List, _++_}
 use mathlib.Core.Option.{some}
 use native.Mathlib.Omega.{arith}
@@ -14,7 +14,7 @@ use Rattle.basics.proofs.Basics.{and-true, or-false}
 use Rattle.stretches.specs.Stretch.{lengthOf}
 use Rattle.stretches.specs.Operators.{operatorOf}
 use Rattle.stretches.specs.Lent.{listsOf}
-use Rattle.meaning.specs.Refusals.{takesLists, mistaken, miscut, disordered, lowest, takingRefusal}
+use Rattle.meaning.specs.Refusals.{takesLists, mistaken, takingRefusal}
 use Rattle.taking.specs.declared.queue.Item.{Item}
 use Rattle.taking.specs.declared.Taken.{Taken}
 use Rattle.taking.specs.Taking.{takenBy, given, notTaken, takeResult, takeCells}

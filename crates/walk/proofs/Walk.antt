@@ -15,13 +15,13 @@ use Rattle.stretches.specs.Filling.{pairsIn, written, moreAfter}
 use Rattle.stretches.proofs.Filling.{drop-step, Partly, partly-more, partly-done, partly-all}
 use Rattle.seek.specs.declared.Front.{Front}
 use Rattle.seek.specs.Source.{Source, listOf, Good}
-use Rattle.seek.specs.Seek.{first, Ready}
-use Rattle.seek.specs.Steps.{FirstOf}
+use Rattle.seek.specs.First.{first, Ready, FirstOf}
 use Rattle.seek.proofs.Nodes.{fine}
 use Rattle.seek.proofs.State.{ready-none}
 use Rattle.seek.proofs.Ahead.{front-none, front-some}
 use Rattle.walk.specs.declared.Walked.{Walked}
-use Rattle.walk.specs.Filling.{Filling, FillAll, PassedOver, Put}
+use Rattle.walk.specs.Filling.{Filling, FillAll}
+use Rattle.walk.specs.inner.Walks.{PassedOver, Put}
 
 -- ── A step of the walk ──
 

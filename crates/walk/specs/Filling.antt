@@ -7,7 +7,6 @@ use Rattle.stretches.specs.Stretch.{Stretch}
 use Rattle.stretches.specs.Front.{onward}
 use Rattle.stretches.specs.Filling.{written, filled, moreAfter}
 use Rattle.seek.specs.Source.{Source, listOf, Good}
-use Rattle.seek.specs.Seek.{Ready}
 use Rattle.walk.specs.declared.Walked.{Walked}
 
 -- l's answers from number f were written into cells
@@ -24,13 +23,3 @@ pub record FillAll (src : Source) (rows : List ℕ) (line f : ℕ) (cells : List
 pub record Within (cells : List ℕ) (r : Walked) (cells' : List ℕ) : Type 0 where
   pub fits : 2 * r .count ≤ length cells
   pub keeps : drop (2 * r .count) cells' ≡ drop (2 * r .count) cells
-
--- ── On the way: what the two walks of the filling call promise ──
-
--- n of the answers from line t on were passed over, and the next is sought from line t'
-pub record PassedOver (src : Source) (rows s : List ℕ) (t n t' : ℕ) (s' : List ℕ) : Type 0 where
-  pub ready : Good src rows → Ready src rows s → Ready src rows s'
-  pub rest : Good src rows → Ready src rows s → onward (listOf src rows 0) t' ≡ drop n (onward (listOf src rows 0) t)
-
-pub record Put (src : Source) (rows s : List ℕ) (t : ℕ) (cells : List ℕ) (r : Walked) (cells' : List ℕ) : Type 0 where
-  pub puts : Good src rows → Ready src rows s → Filling (onward (listOf src rows 0) t) 0 cells r cells'

@@ -2,7 +2,8 @@
 // rows, words, items and the state are as `seek` has them.
 use nodes::TABLE;
 ghost use Rattle.seek.specs.Source.{source};
-ghost use Rattle.walk.specs.Filling.{PassedOver, Put, FillAll, Within};
+ghost use Rattle.walk.specs.inner.Walks.{PassedOver, Put};
+ghost use Rattle.walk.specs.Filling.{FillAll, Within};
 
 // How many stretches were written, and whether a further answer exists.
 pub struct Walked {

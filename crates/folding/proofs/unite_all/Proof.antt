@@ -5,7 +5,7 @@ use mathlib.Core.List.{List}
 use lib.ListN.{length}
 use Rattle.stretches.specs.Table.{firstAt, operandsUp, operandNumbers}
 use Rattle.marks.proofs.United.{united-length}
-use Rattle.folding.specs.Fold.{unitedAll}
+use Rattle.folding.specs.inner.Uniting.{unitedAll}
 use Rattle.folding.proofs.FoldSteps.{unite-turn, unite-end}
 use borrow.Author.Needs.{needs}
 use native.Mathlib.Omega.{arith}

@@ -1,7 +1,6 @@
 -- `numbers` is safe and ends: the loop counts up to the length of `into`, which stays. Assumes nothing.
 use Prim.Native.Nat.{_-_}
 use mathlib.Core.Path.{_≡_}
-use native.Mathlib.Omega.{arith}
 use borrow.Author.Needs.{needs}
 use lib.ListN.{length}
 use Rattle.lists_cases.proofs.numbers.Statement.{statement}

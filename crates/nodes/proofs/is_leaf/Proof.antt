@@ -1,6 +1,5 @@
 -- `nodes::is_leaf` meets its contract: each return by the tests that led there. Assumes nothing.
 use borrow.Author.Tests.{eq-eqb, ne-eqb}
-use borrow.Author.Needs.{needs}
 use Rattle.nodes.proofs.is_leaf.Statement.{statement}
 use Rattle.nodes.proofs.is_leaf.Tie as tie
 

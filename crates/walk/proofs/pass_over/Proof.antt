@@ -1,7 +1,7 @@
 -- `walk::pass_over` meets its contract. The loop's invariant: k answers have been passed over. Assumes nothing.
 use Prim.Native.Nat.{_-_, _≤_}
 use Rattle.seek.specs.Source.{source}
-use Rattle.walk.specs.Filling.{PassedOver}
+use Rattle.walk.specs.inner.Walks.{PassedOver}
 use Rattle.walk.proofs.Walk.{over-start, over-turn, over-end, over-done}
 use borrow.Author.Needs.{needs}
 use native.Mathlib.Omega.{arith}

@@ -1,7 +1,7 @@
 -- `seek::fronts::better` meets its contract: each return and turn is one law or one case.
 -- Assumes nothing.
 use borrow.Author.Tests.{lt-ltb, le-ltb}
-use Rattle.seek.specs.Fronts.{betterOf}
+use Rattle.seek.specs.inner.Fronts.{betterOf}
 use Rattle.seek.proofs.fronts.better.Statement.{statement}
 use Rattle.seek.proofs.fronts.better.Tie as tie
 

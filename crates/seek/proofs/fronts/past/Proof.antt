@@ -1,7 +1,7 @@
 -- `seek::fronts::past` meets its contract: each return and turn is one law or one case.
 -- Assumes nothing.
 use borrow.Author.Tests.{lt-ltb, le-ltb}
-use Rattle.seek.specs.Fronts.{pastOf}
+use Rattle.seek.specs.inner.Fronts.{pastOf}
 use borrow.Author.Needs.{needs}
 use Rattle.seek.proofs.fronts.past.Statement.{statement}
 use Rattle.seek.proofs.fronts.past.Tie as tie

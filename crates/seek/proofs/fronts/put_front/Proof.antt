@@ -3,7 +3,7 @@
 use mathlib.Core.Path.{ap}
 use Prim.Native.Nat.{ℕ, _+_}
 use lib.ListN.{set}
-use Rattle.seek.specs.Fronts.{putAt}
+use Rattle.seek.specs.inner.Fronts.{putAt}
 use borrow.Author.Needs.{needs}
 use Rattle.seek.proofs.fronts.put_front.Statement.{statement}
 use Rattle.seek.proofs.fronts.put_front.Tie as tie

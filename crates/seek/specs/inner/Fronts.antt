@@ -1,24 +1,12 @@
--- Fronts and what is kept of a node, on which the public promises rest, and looks, which private contracts cite. Assumes nothing.
-use Prim.Native.Nat.{ℕ, _+_, _-_, _≤_, _<_}
+-- Fronts compared and stored, and looks, which are fronts to be kept or passed over. Private contracts cite this. Assumes nothing.
+use Prim.Native.Nat.{ℕ, _+_, _≤_, _<_}
 use mathlib.Core.Bool.{Bool, false, cond}
 use mathlib.Core.List.{List}
-use lib.ListN.{getD, set}
+use lib.ListN.{set}
 use lib.Dec.{ltb}
-use Rattle.stretches.specs.Front as fronts
 use Rattle.seek.specs.declared.Front.{Front}
 use Rattle.seek.specs.declared.fronts.Look.{Look}
-
--- ── Fronts: none is line 65,536, one past every line ──
-
-abbrev pub atF : ℕ → ℕ → Front
-atF s e = record { start = s; end = e }
-
-abbrev pub noneF : Front
-noneF = atF 65536 65536
-
-abbrev pub front : fronts.Front → Front
-front fronts.None = noneF
-front (fronts.At x) = atF (x .start) (x .end)
+use Rattle.seek.specs.First.{liveAt, askedAt}
 
 -- the line after; past 65,536 there is none
 unfoldable pub pastOf : ℕ → ℕ
@@ -40,16 +28,7 @@ noLook = lookOf 65536 65536 false
 unfoldable pub goF : Front → (Front → Look) → Look
 goF f k = cond (ltb (f .start) 65536) (k f) noLook
 
--- ── What is kept of a node: one past the start (0: nothing), the end, the line asked from ──
-
-abbrev pub liveAt : List ℕ → ℕ → ℕ
-liveAt s v = getD s v 0
-
-abbrev pub heldAt : List ℕ → ℕ → Front
-heldAt s v = atF (getD s v 0 - 1) (getD s (32 + v) 0)
-
-abbrev pub askedAt : List ℕ → ℕ → ℕ
-askedAt s v = getD s (64 + v) 0
+-- ── The state ──
 
 -- the state with front f, asked from t, stored for v
 unfoldable pub putAt : List ℕ → ℕ → Front → ℕ → List ℕ

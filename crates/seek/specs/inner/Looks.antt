@@ -1,33 +1,18 @@
--- What seeking a node finds, what a look at its operands finds, what the state holds, and what each promises. Assumes nothing.
-use Prim.Native.Nat.{ℕ, _<_, min, max}
+-- What a look at a node's operands finds. Private contracts cite this. Assumes nothing.
+use Prim.Native.Nat.{ℕ, min, max}
 use mathlib.Core.Path.{_≡_}
 use mathlib.Core.Logic.{_⊎_}
 use mathlib.Core.Bool.{Bool, true, false, not, cond, _&&_}
 use mathlib.Core.List.{List, [], _∷_}
-use lib.ListN.{length}
 use lib.Dec.{leb, ltb, eqb}
 use Rattle.stretches.specs.Stretch.{Stretch, st}
 use Rattle.stretches.specs.Front.{firstFrom}
 use Rattle.stretches.specs.Table.{kindAt, firstAt, operandsOf}
 use Rattle.seek.specs.declared.Front.{Front}
 use Rattle.seek.specs.declared.fronts.Look.{Look}
-use Rattle.seek.specs.Source.{Source, measured, given, listOf, Good}
-use Rattle.seek.specs.Fronts.{atF, front, pastOf, lookOf, noLook, goF, liveAt, heldAt, askedAt}
-
--- ── Seeking ──
-
--- the first stretch of node v's list that starts at or after t
-unfoldable pub first : Source → List ℕ → ℕ → ℕ → Front
-first src rows v t = front (firstFrom (listOf src rows v) t)
-
--- what is kept of a node is what it finds from the line that was asked
-pub record Ready (src : Source) (rows s : List ℕ) : Type 0 where
-  pub wide : length s ≡ 128
-  pub holds : (v : ℕ) → v < 32 → 0 < liveAt s v → first src rows v (askedAt s v) ≡ heldAt s v
-
-pub record Found (src : Source) (rows : List ℕ) (v t : ℕ) (r : Front) (s' : List ℕ) : Type 0 where
-  pub is : r ≡ first src rows v t
-  pub ready : Ready src rows s'
+use Rattle.seek.specs.Source.{Source, measured, given, Good}
+use Rattle.seek.specs.First.{atF, front, Ready, Found}
+use Rattle.seek.specs.inner.Fronts.{pastOf, lookOf, noLook, goF}
 
 -- node v was sought from t with the state at s, which is left at s'
 pub record Sought (src : Source) (rows s : List ℕ) (v t : ℕ) (r : Front) (s' : List ℕ) : Type 0 where

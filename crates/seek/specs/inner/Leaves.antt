@@ -10,7 +10,7 @@ use Rattle.stretches.specs.Lent.{part}
 use Rattle.marks.specs.Row.{row}
 use Rattle.seek.specs.declared.Front.{Front}
 use Rattle.seek.specs.Source.{lent}
-use Rattle.seek.specs.Fronts.{front}
+use Rattle.seek.specs.First.{front}
 
 -- r is a place of the list from lo to hi, with all before it starting before t
 pub record Resumed (items : List ℕ) (lo hi t r : ℕ) : Type 0 where

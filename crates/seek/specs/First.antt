@@ -1,0 +1,58 @@
+-- What a seek finds and promises: the first stretch of a node's list from a line on, and a state that serves the next seek. Assumes nothing.
+use Prim.Native.Nat.{ℕ, _+_, _-_, _≤_, _<_}
+use mathlib.Core.Path.{_≡_}
+use mathlib.Core.List.{List}
+use lib.ListN.{length, getD}
+use Rattle.stretches.specs.Front as fronts
+use Rattle.stretches.specs.Front.{firstFrom}
+use Rattle.seek.specs.declared.Front.{Front}
+use Rattle.seek.specs.Source.{Source, listOf, Good}
+
+-- ── Fronts: none is line 65,536, one past every line ──
+
+abbrev pub atF : ℕ → ℕ → Front
+atF s e = record { start = s; end = e }
+
+abbrev pub noneF : Front
+noneF = atF 65536 65536
+
+abbrev pub front : fronts.Front → Front
+front fronts.None = noneF
+front (fronts.At x) = atF (x .start) (x .end)
+
+-- ── What is kept of a node: one past the start (0: nothing), the end, the line asked from ──
+
+abbrev pub liveAt : List ℕ → ℕ → ℕ
+liveAt s v = getD s v 0
+
+abbrev pub heldAt : List ℕ → ℕ → Front
+heldAt s v = atF (getD s v 0 - 1) (getD s (32 + v) 0)
+
+abbrev pub askedAt : List ℕ → ℕ → ℕ
+askedAt s v = getD s (64 + v) 0
+
+-- ── Seeking ──
+
+-- the first stretch of node v's list that starts at or after t
+unfoldable pub first : Source → List ℕ → ℕ → ℕ → Front
+first src rows v t = front (firstFrom (listOf src rows v) t)
+
+-- what is kept of a node is what it finds from the line that was asked
+pub record Ready (src : Source) (rows s : List ℕ) : Type 0 where
+  pub wide : length s ≡ 128
+  pub holds : (v : ℕ) → v < 32 → 0 < liveAt s v → first src rows v (askedAt s v) ≡ heldAt s v
+
+pub record Found (src : Source) (rows : List ℕ) (v t : ℕ) (r : Front) (s' : List ℕ) : Type 0 where
+  pub is : r ≡ first src rows v t
+  pub ready : Ready src rows s'
+
+-- where every list is fine and the state is one that seeks over this table left, the node's front; such a state again
+pub record FirstOf (src : Source) (rows s : List ℕ) (v t : ℕ) (r : Front) (s' : List ℕ) : Type 0 where
+  pub finds : v < 32 → Good src rows → Ready src rows s → Found src rows v t r s'
+  pub outside : 32 ≤ v → (r ≡ noneF) × (s' ≡ s)
+
+-- whatever the table, the state and the source
+pub record Ahead (t : ℕ) (r : Front) : Type 0 where
+  pub from : r .start < 65536 → t ≤ r .start
+  pub small : r .start ≤ 65536
+  pub none : 65536 ≤ r .start → r ≡ noneF
