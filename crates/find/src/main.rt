@@ -1,6 +1,6 @@
 // The finder as a program: reads a pattern, a line feed and a log from standard input, and prints the sheet.
 use basics::first;
-use input::Taken;
+use input::Intake;
 use libc::STDIN_FILENO;
 use libc::STDOUT_FILENO;
 ghost use mathlib.Core.Path.{_≡_};
@@ -9,19 +9,19 @@ ghost use Rattle.find.specs.Reading.{Turned, Gathered, Held, Prints};
 
 // What a turn of reading gave: a piece, taken in; the end of the input; or a failure.
 enum Turn {
-    More(Taken),
+    More(Intake),
     End,
     Failed,
 }
 
 // What reading gave.
 enum Input {
-    Read(Taken),
+    Read(Intake),
     Failed,
 }
 
 // Reads once, and takes in what came.
-fn read_piece(t: Taken, pattern: &mut [u8], log: &mut [u8]) -> Turn
+fn read_piece(t: Intake, pattern: &mut [u8], log: &mut [u8]) -> Turn
     ensures { λ r. ⌜ Turned t (now (pattern .entry)) (now (log .entry)) r (now (pattern .exit)) (now (log .exit)) ⌝ }
 {
     let mut piece = io::large_buffer();
@@ -40,7 +40,7 @@ fn read_piece(t: Taken, pattern: &mut [u8], log: &mut [u8]) -> Turn
 fn read_all(pattern: &mut [u8], log: &mut [u8]) -> Input
     ensures { λ r. ⌜ Gathered r (now (pattern .exit)) (now (log .exit)) ⌝ }
 {
-    let mut t = Taken {
+    let mut t = Intake {
         ended: false,
         pattern: 0,
         log: 0,
@@ -65,14 +65,14 @@ fn read_all(pattern: &mut [u8], log: &mut [u8]) -> Input
 
 // Room for every sheet: a log of 61,440 bytes has at most as many lines, a search no more answers than lines, and a printed
 // line of an answer at most 12 bytes.
-fn paper() -> [u8; 800000]
+fn sheet_buffer() -> [u8; 800000]
     ensures { λ r. ⌜ 800000 ≡ length r ⌝ }
 {
     [0; 800000]
 }
 
 // Writes a sheet to standard output, or says why it cannot. The buffers only say whose sheet it is: that of the input that was read.
-fn put(t: Taken, pattern: &[u8], log: &[u8], bytes: &[u8])
+fn put(t: Intake, pattern: &[u8], log: &[u8], bytes: &[u8])
     requires { ⌜ Prints t (now pattern) (now log) (now bytes) ⌝ }
 {
     if !io::write_all(STDOUT_FILENO, bytes) {
@@ -81,10 +81,10 @@ fn put(t: Taken, pattern: &[u8], log: &[u8], bytes: &[u8])
 }
 
 // Prints the sheet of what was read.
-fn print(t: Taken, pattern: &[u8], log: &[u8])
+fn print(t: Intake, pattern: &[u8], log: &[u8])
     requires { ⌜ Held t (now pattern) (now log) ⌝ }
 {
-    let mut out = paper();
+    let mut out = sheet_buffer();
     let n = sheet::print_sheet(first(pattern, t.pattern), first(log, t.log), &mut out);
     put(t, pattern, log, first(&out, n));
 }

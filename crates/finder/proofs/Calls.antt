@@ -35,7 +35,7 @@ use Rattle.meaning.specs.declared.Filled.{Filled}
 use Rattle.meaning.proofs.Finding.{long-log, bad-pattern, good-pattern, refused-list, accepted-list, accepted-number}
 use Rattle.meaning.proofs.Table.{table-answers}
 use Rattle.walk.specs.declared.Walked.{Walked}
-use Rattle.seek.specs.Source.{source, listOf as tableList, Good}
+use Rattle.seek.specs.Source.{source, listOver, Good}
 use Rattle.walk.specs.Filling.{Filling, FillAll}
 use Rattle.plan.specs.Plan.{widthOf, prepared}
 use Rattle.plan.proofs.Planning.{room-enough, prepared-lists, prepared-good}
@@ -143,7 +143,7 @@ machine-fills rows log w words t words′ line f cells r cells′ h et ew g =
     let good : Good (source words′ []) t = subst (λ (x : List ℕ). Good (source x []) t) (sym ew)
     (subst (Good (source (prepared rows log w words .words) [])) (sym et) (prepared-good rows log w words (h .0) narrow lines room)) in
     subst (λ (l : List Stretch). Filling (onward l line) f cells r cells′)
-    (ap₂ (λ (x y : List ℕ). tableList (source x []) y 0) ew et ∙ prepared-lists rows log w words (h .0) narrow lines room 0) (g .fills good)
+    (ap₂ (λ (x y : List ℕ). listOver (source x []) y 0) ew et ∙ prepared-lists rows log w words (h .0) narrow lines room 0) (g .fills good)
 
 -- the filling call
 module _ (text log : List ℕ) (f : ℕ) (cells : List ℕ) (r : Readied) (e : r ≡ readied text log) where

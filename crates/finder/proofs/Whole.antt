@@ -9,7 +9,7 @@ use native.Mathlib.Omega.{arith}
 use Rattle.stretches.specs.Stretch as s
 use Rattle.stretches.specs.Front as front
 use Rattle.stretches.specs.Filling.{moreAfter}
-use Rattle.stretches.specs.Run.{cut}
+use Rattle.stretches.specs.Run.{inRun}
 use Rattle.stretches.proofs.Filling.{filled-front, done-all, room-done, drop-step}
 use Rattle.lines.specs.Lines.{lines, Whole}
 use Rattle.meaning.specs.Refusals.{Refusal, refusal, accepted}
@@ -18,7 +18,7 @@ use Rattle.meaning.proofs.Finding.{good-pattern, accepted-number, run-accepted,
 use Rattle.finder.specs.declared.Finder.{Finder}
 use Rattle.finder.specs.declared.Answer.the-variants.{None, Stretch}
 use Rattle.finder.specs.Promises.{stepped}
-use Rattle.finder.specs.Whole.{answerOf, after, Accepted, Steps, last, more, Taken, Written, Shown}
+use Rattle.finder.specs.Whole.{answerOf, after, Accepted, Steps, last, more, BySteps, Written, Shown}
 use Rattle.finder.proofs.Stepping.{step-answer}
 
 -- ── The steps ──
@@ -52,11 +52,11 @@ module _ (pattern log : List ℕ) where
       (steps-there (suc n) xs (drop-step n (listOf pattern log) x xs e .0))
 
   -- the steps up to the first none give exactly the list
-  pub taken-list : (xs : List s.Stretch) → Taken pattern log xs → xs ≡ listOf pattern log
+  pub taken-list : (xs : List s.Stretch) → BySteps pattern log xs → xs ≡ listOf pattern log
   unfolding after
   taken-list xs t = steps-rest t 0 refl
 
-  pub taken-there : Taken pattern log (listOf pattern log)
+  pub taken-there : BySteps pattern log (listOf pattern log)
   unfolding after
   taken-there = steps-there 0 (listOf pattern log) refl
 
@@ -89,18 +89,18 @@ accepted-there pattern log e = let z : refusal pattern log .number ≡ 0 = ap (�
 -- and the stretches that lie wholly within it, counted from its first line, are those of the run alone, in the same order, whichever way they are taken
 pub run-decides : (pattern a run b : List ℕ) → Whole a → Whole run → Accepted pattern (a ++ (run ++ b))
     → Accepted pattern run × ((xs ys : List s.Stretch) → Shown pattern (a ++ (run ++ b)) xs → Shown pattern run ys
-    → cut (length (lines a)) (length (lines run)) xs ≡ ys)
+    → inRun (length (lines a)) (length (lines run)) xs ≡ ys)
 run-decides pattern a run b wa wr ok =
     let e = accepted-only pattern (a ++ (run ++ b)) ok in (
       accepted-there pattern run (run-accepted pattern a run b e),
-      λ xs ys p q. ap (cut (length (lines a)) (length (lines run))) (shown-list pattern (a ++ (run ++ b)) xs p) ∙ run-list pattern a run b e wa wr ∙ sym (shown-list pattern run ys q),
+      λ xs ys p q. ap (inRun (length (lines a)) (length (lines run))) (shown-list pattern (a ++ (run ++ b)) xs p) ∙ run-list pattern a run b e wa wr ∙ sym (shown-list pattern run ys q),
     )
 
 -- the same run in two accepted logs, at any two places
 pub runs-agree : (pattern a b c d run : List ℕ) → Whole a → Whole c → Whole run
     → Accepted pattern (a ++ (run ++ b)) → Accepted pattern (c ++ (run ++ d))
     → (xs ys : List s.Stretch) → Shown pattern (a ++ (run ++ b)) xs → Shown pattern (c ++ (run ++ d)) ys
-    → cut (length (lines a)) (length (lines run)) xs ≡ cut (length (lines c)) (length (lines run)) ys
+    → inRun (length (lines a)) (length (lines run)) xs ≡ inRun (length (lines c)) (length (lines run)) ys
 runs-agree pattern a b c d run wa wc wr ok ok′ xs ys p q =
     let l = listOf pattern run in
     run-decides pattern a run b wa wr ok .1 xs l p (inl (taken-there pattern run)) ∙ sym (run-decides pattern c run d wc wr ok′ .1 ys l q (inl (taken-there pattern run)))

@@ -1,4 +1,4 @@
--- The finder after n steps, acceptance, and the stretches of a pattern in a log as the calls give them: the paper's "The undamaged run". Assumes nothing.
+-- The finder after n steps, acceptance, and the stretches of a pattern in a log as the calls give them: document 01's "The undamaged run". Assumes nothing.
 use Prim.Native.Nat.{ℕ, zero, suc, _*_}
 use mathlib.Core.Path.{_≡_}
 use mathlib.Core.Logic.{_⊎_}
@@ -41,8 +41,8 @@ pub data Steps (log : List ℕ) : Finder → List s.Stretch → Type 0 where
   more : {f : Finder} (start end : ℕ) {xs : List s.Stretch} → stepped f log .answer ≡ Stretch start end → Steps log (stepped f log .finder) xs → Steps log f (s.st start end ∷ xs)
 
 -- from the opening on
-abbrev pub Taken : List ℕ → List ℕ → List s.Stretch → Type 0
-Taken pattern log xs = Steps log (opened pattern log .finder) xs
+abbrev pub BySteps : List ℕ → List ℕ → List s.Stretch → Type 0
+BySteps pattern log xs = Steps log (opened pattern log .finder) xs
 
 -- the stretches that the filling call writes from number 0 with cells enough to say "done"
 pub record Written (pattern log : List ℕ) (xs : List s.Stretch) : Type 0 where
@@ -52,4 +52,4 @@ pub record Written (pattern log : List ℕ) (xs : List s.Stretch) : Type 0 where
 
 -- the stretches of a pattern in a log, whether taken one by one or filled into a buffer
 abbrev pub Shown : List ℕ → List ℕ → List s.Stretch → Type 0
-Shown pattern log xs = Taken pattern log xs ⊎ Written pattern log xs
+Shown pattern log xs = BySteps pattern log xs ⊎ Written pattern log xs

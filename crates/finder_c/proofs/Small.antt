@@ -21,7 +21,7 @@ use Rattle.meaning.specs.Finding.{filling}
 use Rattle.stretches.specs.Lent.{listsOf}
 use Rattle.stretches.proofs.Fine.{AllFine, fine-answers}
 use Rattle.meaning.proofs.Bounds.{sized, few-written}
-use Rattle.meaning.specs.Refusals.{miscalled, mistaken, miscut, disordered, lowest, listsRefusal, takingRefusal}
+use Rattle.meaning.specs.Refusals.{miscalled, miscalledTaking, miscut, disordered, lowest, listsRefusal, takingRefusal}
 use Rattle.taking.specs.declared.Taken.{Taken}
 use Rattle.lists.specs.Filling.{listAnswers, walked, notFilled, fillResult}
 use Rattle.taking.specs.Taking.{takenBy, takenOf, given, notTaken, takeResult}
@@ -78,9 +78,9 @@ lists-small op k items ends cells f r e = go (eqb (lowest (miscalled op k ends) 
     )
 
 -- the other operators take nothing
-idle : (ls : List (List Stretch)) (f : algorithm.Taken → algorithm.Taken) → ((s : algorithm.Taken) → f s ≡ s) → (t : ℕ → algorithm.Taken) → t 0 ≡ f (begun ls) → ((p : ℕ) → t (suc p) ≡ f (t p)) → (p : ℕ) → t p .answer ≡ None
-idle ls f h t z s zero = ap (λ (x : algorithm.Taken). x .answer) (z ∙ h (begun ls))
-idle ls f h t z s (suc p) = ap (λ (x : algorithm.Taken). x .answer) (s p ∙ h (t p)) ∙ idle ls f h t z s p
+idle : (ls : List (List Stretch)) (f : algorithm.AnswerCounts → algorithm.AnswerCounts) → ((s : algorithm.AnswerCounts) → f s ≡ s) → (t : ℕ → algorithm.AnswerCounts) → t 0 ≡ f (begun ls) → ((p : ℕ) → t (suc p) ≡ f (t p)) → (p : ℕ) → t p .answer ≡ None
+idle ls f h t z s zero = ap (λ (x : algorithm.AnswerCounts). x .answer) (z ∙ h (begun ls))
+idle ls f h t z s (suc p) = ap (λ (x : algorithm.AnswerCounts). x .answer) (s p ∙ h (t p)) ∙ idle ls f h t z s p
 
 -- an answer that is taken ends below 65,536
 taken-in : (o : Op) (ls : List (List Stretch)) → AllFine 65536 ls → (p : ℕ) (x : Stretch) → taking o ls p .answer ≡ At x → (x .start ≤ 65535) × (x .end ≤ 65535)
@@ -96,7 +96,7 @@ taken-in o ls f p x e = by o e
     never k = let z : _≡_ {A = ℕ} 0 1 = cc in absurd (omega arith)
 
     by : (o : Op) → taking o ls p .answer ≡ At x → (x .start ≤ 65535) × (x .end ≤ 65535)
-    by Or k = fits Or (sym (ap (λ (t : algorithm.Taken). t .answer) (or-taken ls (f .rising) (f .sound) p)) ∙ k)
+    by Or k = fits Or (sym (ap (λ (t : algorithm.AnswerCounts). t .answer) (or-taken ls (f .rising) (f .sound) p)) ∙ k)
     by And k = fits And (sym (and-taken ls (f .rising) (f .sound) p) ∙ k)
     by Row k = never (sym (idle ls (λ s. s) (λ s. refl) (taking Row ls) refl (λ p. refl) p) ∙ k)
     by Then k = never (sym (idle ls (λ s. s) (λ s. refl) (taking Then ls) refl (λ p. refl) p) ∙ k)
@@ -114,19 +114,19 @@ given-number (At x) = refl
 -- of a taking call
 pub taking-small : (op : ℕ) (items ends counts : List ℕ) (p : ℕ) (r : Taken) → r ≡ takeResult op items ends counts p → (r .number ≤ 9) × (r .start ≤ 65535) × (r .end ≤ 65535)
 unfolding takeResult takingRefusal
-taking-small op items ends counts p r e = go (eqb (lowest (mistaken op ends counts) items ends) 0) refl e
+taking-small op items ends counts p r e = go (eqb (lowest (miscalledTaking op ends counts) items ends) 0) refl e
   where
-    go : (b : Bool) → eqb (lowest (mistaken op ends counts) items ends) 0 ≡ b → r ≡ cond b (given (takenOf op items ends p .answer)) (notTaken (lowest (mistaken op ends counts) items ends))
+    go : (b : Bool) → eqb (lowest (miscalledTaking op ends counts) items ends) 0 ≡ b → r ≡ cond b (given (takenOf op items ends p .answer)) (notTaken (lowest (miscalledTaking op ends counts) items ends))
         → (r .number ≤ 9) × (r .start ≤ 65535) × (r .end ≤ 65535)
     go true i x =
-        let a = accepted (mistaken op ends counts) items ends (eqb-true (lowest (mistaken op ends counts) items ends) 0 i) in
+        let a = accepted (miscalledTaking op ends counts) items ends (eqb-true (lowest (miscalledTaking op ends counts) items ends) 0 i) in
         let h = taken-by (operatorOf lengthOf op 0) (listsOf items ends) (fine-lists (listsOf items ends) (a .order)) p (takenOf op items ends p .answer) refl in (
           omega (arith, ap (λ (y : Taken). y .number) x, given-number (takenOf op items ends p .answer)),
           omega (arith, ap (λ (y : Taken). y .start) x, h .0),
           omega (arith, ap (λ (y : Taken). y .end) x, h .1),
         )
     go false i x = (
-      omega (arith, ap (λ (y : Taken). y .number) x, lowest-small (mistaken op ends counts) items ends),
+      omega (arith, ap (λ (y : Taken). y .number) x, lowest-small (miscalledTaking op ends counts) items ends),
       omega (arith, ap (λ (y : Taken). y .start) x),
       omega (arith, ap (λ (y : Taken). y .end) x),
     )

@@ -18,7 +18,7 @@ use Rattle.stretches.proofs.Union.{either-most, or-marks}
 use Rattle.marks.specs.Row.{lies, row, withRow}
 use Rattle.marks.proofs.Rows.{lies-true, row-most}
 use Rattle.marks.proofs.WithRow.{with-other, with-short}
-use Rattle.seek.specs.Source.{Source, source, measured, given, listOf, Good}
+use Rattle.seek.specs.Source.{Source, source, measured, given, listOver, Good}
 use Rattle.folding.specs.Fold.{Folding, folding, rowBefore, rowsBefore, withLeaf, foldOr, maxFolded, foldNode, folded}
 use Rattle.seek.proofs.Nodes.{by-kind, row-list, or-list}
 use Rattle.folding.proofs.FoldLeaf.{Before, leaf-before, leaf-lists, leaf-good}
@@ -61,28 +61,28 @@ module _ (items words rows : List ℕ) (width free : ℕ) where
   rowOf u = row words (firstAt rows u) width
 
   -- a node that is a row has the row's list
-  node-list : (u : ℕ) → u < 32 → IsRow rows width free u → listOf src rows u ≡ marks 0 (rowOf u)
+  node-list : (u : ℕ) → u < 32 → IsRow rows width free u → listOver src rows u ≡ marks 0 (rowOf u)
   node-list u h r = row-list src rows u h (r .kind) ∙ ap (λ (w : ℕ). marks 0 (row words (firstAt rows u) w)) (r .second)
 
   -- and so have operands that are rows
   rows-lists : (stop : ℕ) → stop ≤ 32 → (n c : ℕ) → 32 ≤ c + n → rowsBefore rows width free (operandsUp rows stop c) ≡ true
-      → map (listOf src rows) (operandsUp rows stop c) ≡ map (λ u. marks 0 (rowOf u)) (operandsUp rows stop c)
-  rows-lists stop s zero c h b = let e = up-end rows stop c (omega arith) in ap (map (listOf src rows)) e ∙ sym (ap (map (λ u. marks 0 (rowOf u))) e)
+      → map (listOver src rows) (operandsUp rows stop c) ≡ map (λ u. marks 0 (rowOf u)) (operandsUp rows stop c)
+  rows-lists stop s zero c h b = let e = up-end rows stop c (omega arith) in ap (map (listOver src rows)) e ∙ sym (ap (map (λ u. marks 0 (rowOf u))) e)
   rows-lists stop s (suc n) c h b = go (rows-lists stop s n (nextOf rows c)) (le-or-lt stop c)
     where
       go : (32 ≤ nextOf rows c + n → rowsBefore rows width free (operandsUp rows stop (nextOf rows c)) ≡ true
-          → map (listOf src rows) (operandsUp rows stop (nextOf rows c)) ≡ map (λ u. marks 0 (rowOf u)) (operandsUp rows stop (nextOf rows c)))
-          → (stop ≤ c) ⊎ (c < stop) → map (listOf src rows) (operandsUp rows stop c) ≡ map (λ u. marks 0 (rowOf u)) (operandsUp rows stop c)
-      go on (inl l) = let e = up-end rows stop c l in ap (map (listOf src rows)) e ∙ sym (ap (map (λ u. marks 0 (rowOf u))) e)
+          → map (listOver src rows) (operandsUp rows stop (nextOf rows c)) ≡ map (λ u. marks 0 (rowOf u)) (operandsUp rows stop (nextOf rows c)))
+          → (stop ≤ c) ⊎ (c < stop) → map (listOver src rows) (operandsUp rows stop c) ≡ map (λ u. marks 0 (rowOf u)) (operandsUp rows stop c)
+      go on (inl l) = let e = up-end rows stop c l in ap (map (listOver src rows)) e ∙ sym (ap (map (λ u. marks 0 (rowOf u))) e)
       go on (inr l) =
           let e = up-more rows stop c l s in
           let r = are-rows rows width free c (operandsUp rows stop (nextOf rows c)) (ap (rowsBefore rows width free) (sym e) ∙ b) in
-          ap (map (listOf src rows)) e ∙ ap₂ (λ (x : List Stretch) (xs : List (List Stretch)). x ∷ xs) (node-list c (omega arith) (r .0))
+          ap (map (listOver src rows)) e ∙ ap₂ (λ (x : List Stretch) (xs : List (List Stretch)). x ∷ xs) (node-list c (omega arith) (r .0))
           (on (omega (arith, next-past rows c (omega arith))) (r .1)) ∙ sym (ap (map (λ u. marks 0 (rowOf u))) e)
 
   module _ (v : ℕ) (lv : v < 32) where
     -- `or` of rows: the lines that any of them has
-    or-rows : kindAt rows v ≡ 1 → rowsBefore rows width free (operandNumbers rows v) ≡ true → marks 0 (anyOf (map rowOf (operandNumbers rows v))) ≡ listOf src rows v
+    or-rows : kindAt rows v ≡ 1 → rowsBefore rows width free (operandNumbers rows v) ≡ true → marks 0 (anyOf (map rowOf (operandNumbers rows v))) ≡ listOver src rows v
     or-rows k b =
         let cs = operandNumbers rows v in
         sym (or-list src rows v lv k
@@ -91,7 +91,7 @@ module _ (items words rows : List ℕ) (width free : ℕ) where
         ∙ or-marks (map rowOf cs))
 
     -- `max` of a row: that row
-    max-row : kindAt rows v ≡ 6 → v + 1 < stopOf rows v → IsRow rows width free (v + 1) → 1 ≤ firstAt rows v → marks 0 (rowOf (v + 1)) ≡ listOf src rows v
+    max-row : kindAt rows v ≡ 6 → v + 1 < stopOf rows v → IsRow rows width free (v + 1) → 1 ≤ firstAt rows v → marks 0 (rowOf (v + 1)) ≡ listOver src rows v
     max-row k h r one =
         let s = stop-most rows v in
         let k′ = firstAt rows v in
@@ -105,7 +105,7 @@ module _ (items words rows : List ℕ) (width free : ℕ) where
 -- the lists, that every node's own list is fine, and that the rows in use end before the free place
 record Kept (items : List ℕ) (f f' : Folding) : Type 0 where
   before : Before (f' .rows) (f' .free)
-  lists : (v : ℕ) → listOf (source (f' .words) items) (f' .rows) v ≡ listOf (source (f .words) items) (f .rows) v
+  lists : (v : ℕ) → listOver (source (f' .words) items) (f' .rows) v ≡ listOver (source (f .words) items) (f .rows) v
   good : Good (source (f .words) items) (f .rows) → Good (source (f' .words) items) (f' .rows)
 
 kept-same : (items : List ℕ) (f : Folding) → Before (f .rows) (f .free) → Kept items f f
@@ -114,7 +114,7 @@ kept-same items f b = record { before = b; lists = λ v. refl; good = λ g. g }
 -- a node made a row that has its list
 kept-leaf : (items : List ℕ) (f : Folding) (words' : List ℕ) (v at width free' : ℕ) → v < 32 → Before (f .rows) (f .free)
     → ((u : ℕ) → u < 32 → kindAt (f .rows) u ≡ 16 → row words' (firstAt (f .rows) u) (secondAt (f .rows) u) ≡ row (f .words) (firstAt (f .rows) u) (secondAt (f .rows) u))
-    → marks 0 (row words' at width) ≡ listOf (source (f .words) items) (f .rows) v → at + width ≤ free' → f .free ≤ free'
+    → marks 0 (row words' at width) ≡ listOver (source (f .words) items) (f .rows) v → at + width ≤ free' → f .free ≤ free'
     → Kept items f (folding (withLeaf (f .rows) v at width) words' free')
 kept-leaf items f words' v at width free' lv b others list h k = record {
   before = leaf-before (f .rows) v at width (b .wide) lv (f .free) free' b h k;
@@ -175,7 +175,7 @@ module _ (items : List ℕ) (width : ℕ) (f : Folding) (b : Before (f .rows) (f
       record { before = m .before; lists = λ v. m .lists v ∙ k .lists v; good = λ g. m .good (k .good g) }
 
   -- every node has the list that it had
-  pub fold-lists : (n v : ℕ) → listOf (source (folded width n f .words) items) (folded width n f .rows) v ≡ listOf (source (f .words) items) (f .rows) v
+  pub fold-lists : (n v : ℕ) → listOver (source (folded width n f .words) items) (folded width n f .rows) v ≡ listOver (source (f .words) items) (f .rows) v
   fold-lists n v = kept n .lists v
 
   -- and its own list is fine where all were

@@ -16,7 +16,7 @@ use Rattle.stretches.specs.Operators.{operatorOf, apply}
 use Rattle.stretches.specs.Table.{kindAt, sizeAt, firstAt, secondAt, Given, operandsOf, listAt}
 use Rattle.stretches.proofs.Table.{list-node, same-lists}
 use Rattle.marks.specs.Row.{row}
-use Rattle.seek.specs.Source.{source, measured, lent, ownList, given, listOf, Good}
+use Rattle.seek.specs.Source.{source, measured, lent, ownList, given, listOver, Good}
 use Rattle.folding.specs.Fold.{withLeaf}
 use Rattle.seek.proofs.Nodes.{fine}
 
@@ -93,7 +93,7 @@ module _ (rows : List ℕ) (v at width : ℕ) (wide : length rows ≡ 160) (lv :
 
   module _ (items words words' : List ℕ)
       (others : (u : ℕ) → u < 32 → kindAt rows u ≡ 16 → row words' (firstAt rows u) (secondAt rows u) ≡ row words (firstAt rows u) (secondAt rows u))
-      (list : marks 0 (row words' at width) ≡ listOf (source words items) rows v) where
+      (list : marks 0 (row words' at width) ≡ listOver (source words items) rows v) where
     abbrev old : Given
     old = given (source words items) rows
 

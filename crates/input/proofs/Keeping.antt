@@ -11,7 +11,7 @@ use lib.Dec.{eqb}
 use borrow.Author.Tests.{eq-eqb, ne-eqb}
 use native.Mathlib.Omega.{arith}
 use Rattle.basics.proofs.Basics.{cases, le-or-lt}
-use Rattle.input.specs.declared.Taken.{Taken}
+use Rattle.input.specs.declared.Intake.{Intake}
 use Rattle.input.specs.declared.Parting.{Parting}
 use Rattle.input.specs.Input.{patternOf, logOf, feedIn, patternPart, logPart, Kept, TakenIn, Holds, Keeps}
 use Rattle.input.specs.inner.Parting.{Parts}
@@ -90,7 +90,7 @@ parts-feed s ended n e p h =
     })
 
 -- the parts are kept
-pub parts-kept : (piece : List ℕ) (t : Taken) (d : Parting) (p l p′ l′ : List ℕ) (m n : ℕ) → Parts piece (t .ended) d
+pub parts-kept : (piece : List ℕ) (t : Intake) (d : Parting) (p l p′ l′ : List ℕ) (m n : ℕ) → Parts piece (t .ended) d
     → Kept p (t .pattern) (take (d .cut) piece) m p′ → Kept l (t .log) (take (length piece - d .next) (drop (d .next) piece)) n l′
     → TakenIn piece t p l (record { ended = d .ended; pattern = m; log = n }) p′ l′
 parts-kept piece t d p l p′ l′ m n h a b =
@@ -176,7 +176,7 @@ keeps-start p l = record { ended = refl; pattern = nothing p; log = nothing l }
     nothing b = record { count = omega arith; bytes = sym (take-nil (length b)) }
 
 -- and each piece is added
-pub keeps-more : (input piece : List ℕ) (t r : Taken) (p l p′ l′ : List ℕ) → Keeps input t p l → TakenIn piece t p l r p′ l′ → Keeps (input ++ piece) r p′ l′
+pub keeps-more : (input piece : List ℕ) (t r : Intake) (p l p′ l′ : List ℕ) → Keeps input t p l → TakenIn piece t p l r p′ l′ → Keeps (input ++ piece) r p′ l′
 keeps-more input piece t r p l p′ l′ h k =
     let d = h .ended in
     record {

@@ -7,7 +7,7 @@ use mathlib.Core.List.{List, [], _∷_}
 use lib.ListN.{length, take}
 use lib.Seq.{sets}
 use lib.Dec.{eqb}
-use Rattle.input.specs.declared.Taken.{Taken}
+use Rattle.input.specs.declared.Intake.{Intake}
 
 -- the pattern: the bytes up to the first line feed, or the end
 abbrev pub patternOf : List ℕ → List ℕ
@@ -37,7 +37,7 @@ pub record Kept (buffer : List ℕ) (used : ℕ) (added : List ℕ) (r : ℕ) (b
   pub bytes : buffer′ ≡ sets buffer used added
 
 -- what taking in a piece leaves in the buffers p of the pattern and l of the log
-pub record TakenIn (piece : List ℕ) (t : Taken) (p l : List ℕ) (r : Taken) (p′ l′ : List ℕ) : Type 0 where
+pub record TakenIn (piece : List ℕ) (t : Intake) (p l : List ℕ) (r : Intake) (p′ l′ : List ℕ) : Type 0 where
   pub ended : r .ended ≡ t .ended || feedIn piece
   pub pattern : Kept p (t .pattern) (patternPart (t .ended) piece) (r .pattern) p′
   pub log : Kept l (t .log) (logPart (t .ended) piece) (r .log) l′
@@ -48,7 +48,7 @@ pub record Holds (held : List ℕ) (used : ℕ) (buffer : List ℕ) : Type 0 whe
   pub bytes : take used buffer ≡ take (length buffer) held
 
 -- the input's pattern and log are kept, as far as the buffers go
-pub record Keeps (input : List ℕ) (t : Taken) (p l : List ℕ) : Type 0 where
+pub record Keeps (input : List ℕ) (t : Intake) (p l : List ℕ) : Type 0 where
   pub ended : t .ended ≡ feedIn input
   pub pattern : Holds (patternOf input) (t .pattern) p
   pub log : Holds (logOf input) (t .log) l

@@ -7,7 +7,7 @@ ghost use Rattle.input.specs.Input.{patternOf, Kept, TakenIn};
 ghost use Rattle.input.specs.inner.Parting.{Parts};
 
 // What has been taken in: whether the pattern's line feed has come, and how many bytes of pattern and log are kept.
-pub struct Taken {
+pub struct Intake {
     pub ended: bool,
     pub pattern: usize,
     pub log: usize,
@@ -78,7 +78,7 @@ fn split(piece: &[u8], ended: bool) -> Parting
 }
 
 // Takes in the next piece of the input: its bytes go into the pattern's and the log's buffers, as many as fit.
-pub fn take_piece(piece: &[u8], t: Taken, pattern: &mut [u8], log: &mut [u8]) -> Taken
+pub fn take_piece(piece: &[u8], t: Intake, pattern: &mut [u8], log: &mut [u8]) -> Intake
     ensures { λ r. ⌜ TakenIn (now (piece .entry)) t (now (pattern .entry)) (now (log .entry)) r (now (pattern .exit)) (now (log .exit)) ⌝ }
 {
     let p = split(piece, t.ended);
@@ -86,7 +86,7 @@ pub fn take_piece(piece: &[u8], t: Taken, pattern: &mut [u8], log: &mut [u8]) ->
     let next = p.next;
     let kept_pattern = keep(pattern, t.pattern, &piece[..cut]);
     let kept_log = keep(log, t.log, &piece[next..]);
-    Taken {
+    Intake {
         ended: p.ended,
         pattern: kept_pattern,
         log: kept_log,

@@ -5,7 +5,7 @@ ghost use mathlib.Core.Bool.{false};
 ghost use Prim.Native.Nat.{_-_, _≤_, _<_};
 ghost use lib.ListN.{length, take, drop};
 ghost use Rattle.stretches.specs.Lent.{pairs, listsOf};
-ghost use Rattle.meaning.specs.Refusals.{takesLists, takesBound, miscalled, mistaken, miscut, disorderedList, disordered, listsRefusal, takingRefusal};
+ghost use Rattle.meaning.specs.Refusals.{takesLists, takesBound, miscalled, miscalledTaking, miscut, disorderedList, disordered, listsRefusal, takingRefusal};
 
 // Whether the operator takes n lists.
 fn takes_lists(op: u32, n: usize) -> bool
@@ -53,8 +53,8 @@ fn miscalled(op: u32, k: u32, ends: &[u32]) -> bool
 }
 
 // 6 for the taking call.
-fn mistaken(op: u32, ends: &[u32], counts: &[u32]) -> bool
-    ensures { λ r. ⌜ r ≡ mistaken op (now (ends .entry)) (now (counts .entry)) ⌝ }
+fn miscalled_taking(op: u32, ends: &[u32], counts: &[u32]) -> bool
+    ensures { λ r. ⌜ r ≡ miscalledTaking op (now (ends .entry)) (now (counts .entry)) ⌝ }
 {
     if op < 1 {
         return true;
@@ -159,7 +159,7 @@ pub fn refusal(op: u32, k: u32, items: &[u32], ends: &[u32]) -> usize
 pub fn taking_refusal(op: u32, items: &[u32], ends: &[u32], counts: &[u32]) -> usize
     ensures { λ r. ⌜ r ≡ takingRefusal op (now (items .entry)) (now (ends .entry)) (now (counts .entry)) ⌝ }
 {
-    if mistaken(op, ends, counts) {
+    if miscalled_taking(op, ends, counts) {
         return 6;
     }
     if miscut(items, ends) {

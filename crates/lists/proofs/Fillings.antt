@@ -16,7 +16,7 @@ use Rattle.stretches.proofs.Fine.{AllFine}
 use Rattle.meaning.specs.Refusals.{takesLists, takesBound, miscalled, listsRefusal}
 use Rattle.stretches.proofs.Steps.{onward-all}
 use Rattle.walk.specs.declared.Walked.{Walked}
-use Rattle.seek.specs.Source.{source, listOf}
+use Rattle.seek.specs.Source.{source, listOver}
 use Rattle.walk.specs.Filling.{Filling, FillAll}
 use Rattle.seek.proofs.Nodes.{fine}
 use Rattle.lists.specs.Filling.{listAnswers, walked, notFilled, fillResult, fillCells}
@@ -77,7 +77,7 @@ module _ (op k : ℕ) (items ends cells : List ℕ) (f n : ℕ) (is : n ≡ list
           let g = fills in
           let good = laid-good op k items ends rows l (g .low) (g .high) (g .few) (g .inside) (g .order) in
           subst (λ (xs : List Stretch). Filling xs f cells w cells′)
-          (onward-all (listOf (source [] items) rows 0) (fine (source [] items) rows good 0 (omega arith) .rising) ∙ laid-answers op k items ends rows l (g .low) (g .high) (g .few) (g .inside))
+          (onward-all (listOver (source [] items) rows 0) (fine (source [] items) rows good 0 (omega arith) .rising) ∙ laid-answers op k items ends rows l (g .low) (g .high) (g .few) (g .inside))
           (h .fills good)
 
       pub fill-walked : record { number = 0; place = 0; count = w .count; more = w .more } ≡ fillResult op k items ends cells f

@@ -19,7 +19,7 @@ use Rattle.stretches.proofs.Lent.{lists-at}
 use Rattle.stretches.proofs.Table.{next-is, stop-is, from-more, from-end, list-node}
 use Rattle.basics.proofs.Basics.{le-or-lt, open-at}
 use Rattle.marks.specs.Row.{row}
-use Rattle.seek.specs.Source.{source, lent, ownList, given, listOf, Good}
+use Rattle.seek.specs.Source.{source, lent, ownList, given, listOver, Good}
 use Rattle.lists.specs.Filling.{listAnswers}
 use Rattle.lists.specs.inner.Table.{Laid}
 
@@ -166,7 +166,7 @@ module _ (op k : ℕ) (items ends rows : List ℕ) (l : Laid op k (length ends) 
   next-at : (j : ℕ) → j < length ends → nextOf rows (1 + j) ≡ 1 + (j + 1)
   next-at j h = next-is rows (1 + j) 1 (omega (arith, l .sizes j h)) (omega arith) (omega (arith, l .size)) ∙ omega arith
 
-  leaf-list : (j : ℕ) → j < length ends → listOf (source [] items) rows (1 + j) ≡ part items (startOf ends j) (getD ends j 0)
+  leaf-list : (j : ℕ) → j < length ends → listOver (source [] items) rows (1 + j) ≡ part items (startOf ends j) (getD ends j 0)
   leaf-list j h =
       list-node (given (source [] items) rows) rows (1 + j) (omega arith)
       ∙ ap (λ (x : ℕ). apply (operatorOf lengthOf x (firstAt rows (1 + j))) (given (source [] items) rows .own (1 + j)) (operandsOf (given (source [] items) rows) rows (1 + j))) (l .kinds j h)
@@ -183,7 +183,7 @@ module _ (op k : ℕ) (items ends rows : List ℕ) (l : Laid op k (length ends) 
       ∙ sym (ap (listsFrom (startOf ends j) items) (open-at ends j (omega arith)))
 
   -- its list is the operator's answers over the lent lists
-  pub laid-answers : listOf (source [] items) rows 0 ≡ listAnswers op k items ends
+  pub laid-answers : listOver (source [] items) rows 0 ≡ listAnswers op k items ends
   laid-answers =
       let z : 0 + 1 ≡ 1 + 0 = omega arith in
       list-node (given (source [] items) rows) rows 0 (omega arith)

@@ -8,7 +8,7 @@ use lib.ListN.{length, length-append}
 use lib.Dec.{ltb, eqb}
 use borrow.Author.Tests.{ltb-true, ltb-false, lt-ltb, le-ltb, eqb-true}
 use native.Mathlib.Omega.{arith}
-use Rattle.stretches.specs.Run.{cut}
+use Rattle.stretches.specs.Run.{inRun}
 use Rattle.lines.specs.Lines.{lines, Whole}
 use Rattle.records.specs.Line.{says}
 use Rattle.pattern.specs.Pattern.{Pattern}
@@ -85,9 +85,9 @@ module _ (pattern a run b : List ℕ) (e : refusal pattern (a ++ (run ++ b)) ≡
       let k = accepted-by pattern (a ++ (run ++ b)) e in
       good-pattern pattern run (k .tree) (omega (arith, k .brief, length-append a (run ++ b), length-append run b)) (k .reads)
 
-  pub run-list : Whole a → Whole run → cut (length (lines a)) (length (lines run)) (listOf pattern (a ++ (run ++ b))) ≡ listOf pattern run
+  pub run-list : Whole a → Whole run → inRun (length (lines a)) (length (lines run)) (listOf pattern (a ++ (run ++ b))) ≡ listOf pattern run
   run-list wa wr =
       let k = accepted-by pattern (a ++ (run ++ b)) e in
       let j = accepted-by pattern run run-accepted in
-      ap (cut (length (lines a)) (length (lines run))) (accepted-list pattern (a ++ (run ++ b)) (k .tree) (k .brief) (k .reads))
+      ap (inRun (length (lines a)) (length (lines run))) (accepted-list pattern (a ++ (run ++ b)) (k .tree) (k .brief) (k .reads))
       ∙ (run-bytes (k .tree) a run b wa wr ∙ sym (accepted-list pattern run (k .tree) (j .brief) (k .reads)))

@@ -4,7 +4,7 @@ use Prim.Native.Nat.{ℕ}
 use mathlib.Core.Path.{_≡_, ap, ap₂, sym, _∙_}
 use mathlib.Core.List.{List, _++_}
 use lib.ListN.{length, length-map}
-use Rattle.stretches.specs.Run.{cut}
+use Rattle.stretches.specs.Run.{inRun}
 use Rattle.lines.specs.Lines.{lines, Whole}
 use Rattle.records.specs.Line.{meaning, says}
 use Rattle.records.specs.declared.Line.{Line}
@@ -18,8 +18,8 @@ pub says-length : (log : List ℕ) → length (says log) ≡ length (lines log)
 says-length log = length-map (lines log) meaning
 
 -- demand 3 over bytes: whatever whole lines precede a run of whole lines, and whatever follows it
-pub run-bytes : (p : Pattern) (a run b : List ℕ) → Whole a → Whole run → cut (length (lines a)) (length (lines run)) (answersIn p (a ++ (run ++ b))) ≡ answersIn p run
+pub run-bytes : (p : Pattern) (a run b : List ℕ) → Whole a → Whole run → inRun (length (lines a)) (length (lines run)) (answersIn p (a ++ (run ++ b))) ≡ answersIn p run
 run-bytes p a run b wa wr =
-    ap₂ (λ (r n : ℕ). cut r n (answersIn p (a ++ (run ++ b)))) (sym (says-length a)) (sym (says-length run))
-    ∙ (ap (λ (x : List Line). cut (length (says a)) (length (says run)) (answersOf p x)) (says-run a run b wa wr)
+    ap₂ (λ (r n : ℕ). inRun r n (answersIn p (a ++ (run ++ b)))) (sym (says-length a)) (sym (says-length run))
+    ∙ (ap (λ (x : List Line). inRun (length (says a)) (length (says run)) (answersOf p x)) (says-run a run b wa wr)
     ∙ run-lines p (says a) (says run) (says b))

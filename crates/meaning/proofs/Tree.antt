@@ -8,11 +8,11 @@ use lib.ListN.{length, length-map}
 use native.Mathlib.Omega.{arith}
 use Rattle.stretches.specs.Stretch.{Stretch, st, Fine, marks}
 use Rattle.stretches.specs.Stretch as op
-use Rattle.stretches.specs.Run.{cut}
+use Rattle.stretches.specs.Run.{inRun}
 use Rattle.stretches.specs.Operators.{apply}
 use Rattle.stretches.proofs.Fine.{AllFine, all-none, all-more, fine-apply, fine-marks}
 use Rattle.stretches.proofs.Window.{Window, Windows, or-alike, and-alike, row-alike, then-alike, less-alike, max-alike, local}
-use Rattle.stretches.proofs.Cut.{window-cut}
+use Rattle.stretches.proofs.InRun.{window-cut}
 use Rattle.stretches.proofs.Marks.{window-marks}
 use Rattle.stretches.proofs.Steps.{rising-length}
 use Rattle.records.specs.declared.Line.{Line}
@@ -70,7 +70,7 @@ module _ (r n : ℕ) (v v′ : Valuation) (b b′ : ℕ)
     windows-evals (Cons p ps) = (window-eval p, windows-evals ps)
 
 -- demand 3 over lists of lines: whatever precedes and follows a run, the answers wholly within it, counted from its first line, are those of the run alone
-pub run-lines : (p : Pattern) (xs run zs : List Line) → cut (length xs) (length run) (answersOf p (xs ++ (run ++ zs))) ≡ answersOf p run
+pub run-lines : (p : Pattern) (xs run zs : List Line) → inRun (length xs) (length run) (answersOf p (xs ++ (run ++ zs))) ≡ answersOf p run
 run-lines p xs run zs =
     let f = fine-answersOf p (xs ++ (run ++ zs)) in
     let g = fine-answersOf p run in

@@ -1,4 +1,4 @@
--- The refusals: the paper's "Signals on the board", when each applies, 1 to 9 in number order; and which a call gets, the lowest that applies.
+-- The refusals: document 01's "Signals on the board", when each applies, 1 to 9 in number order; and which a call gets, the lowest that applies.
 -- A refusal has its number and a place, 0 but for 3; number 0: accepted.
 -- Assumes nothing.
 use Prim.Native.Nat.{ℕ, _%_}
@@ -46,8 +46,8 @@ abbrev pub miscalled : ℕ → ℕ → List ℕ → Bool
 miscalled n k ends = not (leb 1 n && leb n 6) || (not (takesLists n (length ends)) || not (takesBound n k))
 
 -- the taking call, for or and and
-abbrev pub mistaken : ℕ → List ℕ → List ℕ → Bool
-mistaken n ends counts = not (leb 1 n && leb n 2) || (not (takesLists n (length ends)) || ltb (length counts) (length ends))
+abbrev pub miscalledTaking : ℕ → List ℕ → List ℕ → Bool
+miscalledTaking n ends counts = not (leb 1 n && leb n 2) || (not (takesLists n (length ends)) || ltb (length counts) (length ends))
 
 -- 7, miscut: an end place odd, below the one before (i, 0 at first), or the last not the run's length
 abbrev pub miscutFrom : ℕ → List ℕ → ℕ → Bool
@@ -98,4 +98,4 @@ listsRefusal op k items ends = lowest (miscalled op k ends) items ends
 
 -- of the taking call
 unfoldable pub takingRefusal : ℕ → List ℕ → List ℕ → List ℕ → ℕ
-takingRefusal op items ends counts = lowest (mistaken op ends counts) items ends
+takingRefusal op items ends counts = lowest (miscalledTaking op ends counts) items ends

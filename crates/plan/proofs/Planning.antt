@@ -24,7 +24,7 @@ use Rattle.records.specs.declared.Line.{Line}
 use Rattle.records.specs.Line.{says}
 use Rattle.records.specs.Leaf.{codeIs, frameIs}
 use Rattle.meaning.specs.Meaning.{hits, overTable}
-use Rattle.seek.specs.Source.{source, lent, ownList, given, listOf, Good}
+use Rattle.seek.specs.Source.{source, lent, ownList, given, listOver, Good}
 use Rattle.folding.specs.Fold.{Folding, folding, withLeaf, folded}
 use Rattle.seek.proofs.Nodes.{no-operator}
 use Rattle.folding.proofs.FoldLeaf.{Before, leaf-wide, leaf-kind, leaf-first, leaf-second, leaf-size, else-kind, else-first, else-second}
@@ -247,7 +247,7 @@ module _ (rows leaves : List ℕ) (n : ℕ) (ls : List Line) (w : ℕ) (words : 
   abbrev made : Folding
   made = folded w 32 (folding t marked-words (n * w))
 
-  made-lists : (v : ℕ) → listOf (source (made .words) []) (made .rows) v ≡ listAt old rows v
+  made-lists : (v : ℕ) → listOver (source (made .words) []) (made .rows) v ≡ listAt old rows v
   made-lists v = fold-lists [] w (folding t marked-words (n * w)) before 32 v ∙ same-lists old new rows t size-same list-same v
 
   made-good : Good (source (made .words) []) (made .rows)
@@ -272,9 +272,9 @@ module _ (rows log : List ℕ) (w : ℕ) (words : List ℕ) (wide : length rows 
       ∙ ap fold (ap (λ (i : ℕ). cond (fit i w (length words)) (rowsThen (g .leaves) i (says log) w words) words) small ∙ ap (λ b. cond b (rowsThen (g .leaves) n (says log) w words) words) f)
 
   -- the lists of the machine's table are those of the pattern's
-  pub prepared-lists : (v : ℕ) → listOf (source (prepared rows log w words .words) []) (prepared rows log w words .rows) v ≡ listAt (overTable rows (says log)) rows v
+  pub prepared-lists : (v : ℕ) → listOver (source (prepared rows log w words .words) []) (prepared rows log w words .rows) v ≡ listAt (overTable rows (says log)) rows v
   prepared-lists v =
-      ap (λ (f : Folding). listOf (source (f .words) []) (f .rows) v) is-made ∙ made-lists rows (g .leaves) (g .count) (says log) w words wide narrow lines room (leaf-found rows) v
+      ap (λ (f : Folding). listOver (source (f .words) []) (f .rows) v) is-made ∙ made-lists rows (g .leaves) (g .count) (says log) w words wide narrow lines room (leaf-found rows) v
 
   -- and fine
   pub prepared-good : Good (source (prepared rows log w words .words) []) (prepared rows log w words .rows)

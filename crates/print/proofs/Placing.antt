@@ -11,7 +11,7 @@ use lib.Dec.{leb}
 use borrow.Author.Tests.{le-leb, lt-leb, leb-true, leb-false}
 use native.Mathlib.Omega.{arith}
 use Rattle.basics.proofs.Basics.{cases}
-use Rattle.print.specs.Print.{laid, laidLength, Lays}
+use Rattle.print.specs.Print.{writtenOver, bytesWritten, Writes}
 
 -- what is stored behind a first part
 pub sets-append : (a b l : List ℕ) (i : ℕ) → sets (sets l i a) (i + length a) b ≡ sets l i (a ++ b)
@@ -34,20 +34,20 @@ pub leb-beside : (a b x y : ℕ) → a + y ≡ b + x → leb a b ≡ leb x y
 leb-beside a b x y e = cases (leb x y) (λ (t : Bool). leb a b ≡ t) (λ p. le-leb a b (omega (arith, leb-true x y p))) (λ p. lt-leb a b (omega (arith, leb-false x y p)))
 
 -- a sheet that fits
-pub laid-fits : (s out : List ℕ) → length s ≤ length out → Lays s out (length s) (sets out 0 s)
-unfolding laid laidLength
+pub laid-fits : (s out : List ℕ) → length s ≤ length out → Writes s out (length s) (sets out 0 s)
+unfolding writtenOver bytesWritten
 laid-fits s out h =
     let z : 0 + length s ≡ length s = omega arith in
     let e : sets out 0 s ≡ s ++ drop (length s) out = sets-eq s out 0 (omega arith) ∙ ap (λ (k : ℕ). s ++ drop k out) z in
     (rw (le-leb (length s) (length out) h), rw (le-leb (length s) (length out) h) e)
 
 -- and one that does not
-pub laid-not : (s out : List ℕ) → length out < length s → Lays s out 0 out
-unfolding laid laidLength
+pub laid-not : (s out : List ℕ) → length out < length s → Writes s out 0 out
+unfolding writtenOver bytesWritten
 laid-not s out h = (rw (lt-leb (length s) (length out) h), rw (lt-leb (length s) (length out) h))
 
 -- the bytes written are the sheet's
-pub laid-all : (s out : List ℕ) (r : ℕ) (out′ : List ℕ) → Lays s out r out′ → length s ≤ length out → take r out′ ≡ s
+pub laid-all : (s out : List ℕ) (r : ℕ) (out′ : List ℕ) → Writes s out r out′ → length s ≤ length out → take r out′ ≡ s
 laid-all s out r out′ w h =
     let f = laid-fits s out h in
     let z : 0 + length s ≤ length out = omega arith in

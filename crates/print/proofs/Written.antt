@@ -12,7 +12,7 @@ use native.Mathlib.Omega.{arith}
 use Rattle.stretches.specs.Stretch.{Stretch}
 use Rattle.basics.specs.Decimal.{decimal}
 use Rattle.stretches.specs.Lent.{pairs}
-use Rattle.print.specs.Print.{field, rows, foundSheet, refusedSheet, shown, Lays}
+use Rattle.print.specs.Print.{field, rows, foundSheet, refusedSheet, shown, Writes}
 use Rattle.print.proofs.Placing.{sets-append, laid-fits, laid-not}
 use Rattle.print.proofs.Printed.{length-field, length-pairs, shown-most}
 
@@ -83,7 +83,7 @@ shown-least : (count most : ℕ) (cells : List ℕ) → most ≡ min count (leng
 shown-least count most cells m = ap (λ (k : ℕ). take k (pairs cells)) m ∙ shown-most count cells
 
 -- a sheet is written
-pub written-laid : {out s o : List ℕ} {at : ℕ} → Written out s at o → length s ≤ length out → Lays s out at o
+pub written-laid : {out s o : List ℕ} {at : ℕ} → Written out s at o → length s ≤ length out → Writes s out at o
 written-laid {out} {s} w h = let f = laid-fits s out h in (w .place ∙ f .0, w .bytes ∙ f .1)
 
 -- the sheet of a refusal
@@ -91,7 +91,7 @@ pub refused-laid : (number place : ℕ) (out o₀ o₁ o₂ : List ℕ) (n₁ n�
     → o₀ ≡ set (set out 0 82) 1 44
     → (n₁ ≡ 2 + length (field number 44)) × (o₁ ≡ sets o₀ 2 (field number 44))
     → (n₂ ≡ n₁ + length (field place 10)) × (o₂ ≡ sets o₁ n₁ (field place 10))
-    → Lays (refusedSheet number place) out n₂ o₂
+    → Writes (refusedSheet number place) out n₂ o₂
 unfolding refusedSheet
 refused-laid number place out o₀ o₁ o₂ n₁ n₂ h e₀ e₁ e₂ =
     written-laid (written-more (field place 10) (written-more (field number 44) (written-letter out o₀ 82 e₀) (e₁ .0) (e₁ .1)) (e₂ .0) (e₂ .1)) h
@@ -102,7 +102,7 @@ module _ (lines damaged : ℕ) (out o₀ o₁ o₂ o₃ o₄ : List ℕ) (n₁ n
     (e₂ : (n₂ ≡ n₁ + length (field damaged 44)) × (o₂ ≡ sets o₁ n₁ (field damaged 44))) where
   found-written : (l : List Stretch) → length (foundSheet lines damaged l) ≤ length out
       → (n₃ ≡ n₂ + length (field (length l) 10)) × (o₃ ≡ sets o₂ n₂ (field (length l) 10)) → (n₄ ≡ n₃ + length (rows l)) × (o₄ ≡ sets o₃ n₃ (rows l))
-      → Lays (foundSheet lines damaged l) out n₄ o₄
+      → Writes (foundSheet lines damaged l) out n₄ o₄
   unfolding foundSheet
   found-written l h e₃ e₄ =
       let a = field lines 44 in
@@ -117,17 +117,17 @@ module _ (lines damaged : ℕ) (out o₀ o₁ o₂ o₃ o₄ : List ℕ) (n₁ n
   -- over the cells, with as many answers as are asked for and held
   pub found-laid : (count most : ℕ) (cells : List ℕ) → most ≡ min count (length cells / 2) → length (foundSheet lines damaged (take most (pairs cells))) ≤ length out
       → (n₃ ≡ n₂ + length (field most 10)) × (o₃ ≡ sets o₂ n₂ (field most 10)) → (n₄ ≡ n₃ + length (rows (take most (pairs cells)))) × (o₄ ≡ sets o₃ n₃ (rows (take most (pairs cells))))
-      → Lays (foundSheet lines damaged (shown count cells)) out n₄ o₄
+      → Writes (foundSheet lines damaged (shown count cells)) out n₄ o₄
   found-laid count most cells m h e₃ e₄ =
       let k : most ≡ length (take most (pairs cells)) = sym (length-most most cells (omega arith)) in
       let t = found-written (take most (pairs cells)) h (subst (λ (n : ℕ). (n₃ ≡ n₂ + length (field n 10)) × (o₃ ≡ sets o₂ n₂ (field n 10))) k e₃) e₄ in
-      subst (λ (l : List Stretch). Lays (foundSheet lines damaged l) out n₄ o₄) (shown-least count most cells m) t
+      subst (λ (l : List Stretch). Writes (foundSheet lines damaged l) out n₄ o₄) (shown-least count most cells m) t
 
 -- nothing is written
 pub found-not : (lines damaged count most : ℕ) (cells out : List ℕ) (fits : Bool) → most ≡ min count (length cells / 2)
     → fits ≡ leb (length (foundSheet lines damaged (take most (pairs cells)))) (length out) → not fits ≡ true
-    → Lays (foundSheet lines damaged (shown count cells)) out 0 out
+    → Writes (foundSheet lines damaged (shown count cells)) out 0 out
 found-not lines damaged count most cells out fits m e t =
     let s = foundSheet lines damaged (take most (pairs cells)) in
-    subst (λ (l : List Stretch). Lays (foundSheet lines damaged l) out 0 out) (shown-least count most cells m)
+    subst (λ (l : List Stretch). Writes (foundSheet lines damaged l) out 0 out) (shown-least count most cells m)
     (laid-not s out (leb-false (length s) (length out) (sym e ∙ not-true fits t)))

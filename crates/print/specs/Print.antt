@@ -1,4 +1,4 @@
--- The printed sheet, byte by byte, and what writing it into a lent buffer leaves: the paper's "The printed sheet".
+-- The printed sheet, byte by byte, and what writing it into a lent buffer leaves: document 01's "The printed sheet".
 -- Assumes nothing.
 use Prim.Native.Nat.{ℕ}
 use mathlib.Core.Path.{_≡_, refl}
@@ -32,18 +32,18 @@ abbrev pub shown : ℕ → List ℕ → List Stretch
 shown count cells = take count (pairs cells)
 
 -- the buffer afterwards: the sheet where it fits, and what was behind it; else nothing is written
-unfoldable pub laid : List ℕ → List ℕ → List ℕ
-laid sheet out = cond (leb (length sheet) (length out)) (sheet ++ drop (length sheet) out) out
+unfoldable pub writtenOver : List ℕ → List ℕ → List ℕ
+writtenOver sheet out = cond (leb (length sheet) (length out)) (sheet ++ drop (length sheet) out) out
 
 -- the number of bytes written: the sheet's where it fits, else 0
-unfoldable pub laidLength : List ℕ → List ℕ → ℕ
-laidLength sheet out = cond (leb (length sheet) (length out)) (length sheet) 0
+unfoldable pub bytesWritten : List ℕ → List ℕ → ℕ
+bytesWritten sheet out = cond (leb (length sheet) (length out)) (length sheet) 0
 
 -- a sheet is written into `out`: r bytes, and these stand there afterwards
-abbrev pub Lays : List ℕ → List ℕ → ℕ → List ℕ → Type 0
-Lays sheet out r out′ = (r ≡ laidLength sheet out) × (out′ ≡ laid sheet out)
+abbrev pub Writes : List ℕ → List ℕ → ℕ → List ℕ → Type 0
+Writes sheet out r out′ = (r ≡ bytesWritten sheet out) × (out′ ≡ writtenOver sheet out)
 
--- the paper's sheet: F,5,1,1 and 0,3
+-- document 01's sheet: F,5,1,1 and 0,3
 example-found : foundSheet 5 1 (st 0 3 ∷ []) ≡ 70 ∷ 44 ∷ 53 ∷ 44 ∷ 49 ∷ 44 ∷ 49 ∷ 10 ∷ 48 ∷ 44 ∷ 51 ∷ 10 ∷ []
 unfolding foundSheet field rows decimal digitsOf
 example-found = refl

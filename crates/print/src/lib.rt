@@ -8,7 +8,7 @@ ghost use lib.Seq.{sets};
 ghost use lib.Dec.{leb};
 ghost use Rattle.basics.specs.Decimal.{decimal};
 ghost use Rattle.stretches.specs.Lent.{pairs};
-ghost use Rattle.print.specs.Print.{field, rows, foundSheet, refusedSheet, shown, Lays};
+ghost use Rattle.print.specs.Print.{field, rows, foundSheet, refusedSheet, shown, Writes};
 
 // The byte of a digit.
 fn digit(d: usize) -> u8
@@ -123,7 +123,7 @@ pub fn write_found(
     count: usize,
     out: &mut [u8],
 ) -> usize
-    ensures { λ r. ⌜ Lays (foundSheet lines damaged (shown count (now (cells .entry)))) (now (out .entry)) r (now (out .exit)) ⌝ }
+    ensures { λ r. ⌜ Writes (foundSheet lines damaged (shown count (now (cells .entry)))) (now (out .entry)) r (now (out .exit)) ⌝ }
 {
     let most = shorter(count, cells.len() / 2);
     if !found_fits(lines, damaged, cells, most, out.len()) {
@@ -138,7 +138,7 @@ pub fn write_found(
 
 // Writes the sheet of a refusal and gives its length. Where the sheet does not fit, nothing is written and 0 comes back.
 pub fn write_refused(number: usize, place: usize, out: &mut [u8]) -> usize
-    ensures { λ r. ⌜ Lays (refusedSheet number place) (now (out .entry)) r (now (out .exit)) ⌝ }
+    ensures { λ r. ⌜ Writes (refusedSheet number place) (now (out .entry)) r (now (out .exit)) ⌝ }
 {
     let need = digits(number) + digits(place) + 4;
     if out.len() < need {

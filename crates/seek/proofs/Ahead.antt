@@ -9,7 +9,7 @@ use Rattle.stretches.specs.Front.{None, At, firstFrom, onward}
 use Rattle.stretches.proofs.Fronts.{front-good}
 use Rattle.stretches.proofs.Steps.{onward-none, onward-at}
 use Rattle.seek.specs.declared.Front.{Front}
-use Rattle.seek.specs.Source.{Source, listOf, Good}
+use Rattle.seek.specs.Source.{Source, listOver, Good}
 use Rattle.seek.specs.First.{atF, noneF, front, first, FirstOf, Ahead}
 use Rattle.seek.specs.inner.Looks.{Sought}
 use Rattle.seek.proofs.Nodes.{fine}
@@ -56,11 +56,11 @@ module _ {src : Source} {rows s : List ℕ} {v t : ℕ} {f : Front} {s' : List �
 
   pub first-none : {r : Front} → 65536 ≤ f .start → r ≡ noneF → FirstOf src rows s v t r s' × Ahead t r
   unfolding first
-  first-none {r} n e = (handed (λ good is. e ∙ front-none (listOf src rows v) (fine src rows good v lv) t f is n .0), ahead-none t r e)
+  first-none {r} n e = (handed (λ good is. e ∙ front-none (listOver src rows v) (fine src rows good v lv) t f is n .0), ahead-none t r e)
 
   pub first-bad : {r : Front} → f .start < 65536 → f .start < t → r ≡ noneF → FirstOf src rows s v t r s' × Ahead t r
   unfolding first
-  first-bad {r} one bad e = (handed (λ good is. absurd (omega (arith, front-some (listOf src rows v) (fine src rows good v lv) t f is one .0))), ahead-none t r e)
+  first-bad {r} one bad e = (handed (λ good is. absurd (omega (arith, front-some (listOver src rows v) (fine src rows good v lv) t f is one .0))), ahead-none t r e)
 
   pub first-at : f .start < 65536 → t ≤ f .start → FirstOf src rows s v t f s' × Ahead t f
   first-at one lo = (handed (λ good is. refl), record { from = λ z. lo; small = omega arith; none = λ n. absurd (omega arith) })

@@ -14,7 +14,7 @@ use Rattle.stretches.proofs.Lists.{st-path}
 use Rattle.basics.proofs.Basics.{cases}
 use Rattle.stretches.proofs.Answers.{AllRising}
 use Rattle.stretches.proofs.Fronts.{better, bestFront, FirstIs, first-good, or-front}
-use Rattle.stretches.proofs.Cut.{Below, AllBelow}
+use Rattle.stretches.proofs.InRun.{Below, AllBelow}
 use Rattle.stretches.proofs.Orders.{ends-true, ends-false}
 use Rattle.stretches.specs.Taking.{endsFirst}
 use Rattle.seek.specs.declared.Front.{Front}

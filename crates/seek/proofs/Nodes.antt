@@ -15,13 +15,13 @@ use Rattle.stretches.specs.Front as fronts
 use Rattle.stretches.specs.Front.{None, At, firstFrom}
 use Rattle.stretches.specs.Table.{kindAt, firstAt, secondAt, stopOf, operandsOf}
 use Rattle.stretches.proofs.Answers.{cand-sound}
-use Rattle.stretches.proofs.Cut.{cand-below}
+use Rattle.stretches.proofs.InRun.{cand-below}
 use Rattle.stretches.proofs.Fine.{AllFine}
 use Rattle.stretches.proofs.Fronts.{FirstIs, first-good, first-is, first-none}
 use Rattle.stretches.proofs.Table.{list-node, all-operands, fine-list}
 use Rattle.stretches.proofs.Tight.{Tight}
 use Rattle.marks.specs.Row.{row}
-use Rattle.seek.specs.Source.{Source, measured, lent, ownList, given, listOf, Good}
+use Rattle.seek.specs.Source.{Source, measured, lent, ownList, given, listOver, Good}
 use Rattle.seek.specs.First.{noneF, front, first}
 use Rattle.seek.specs.inner.Looks.{lookBy, look, Narrows, Skips}
 use Rattle.seek.proofs.Looks.{TightLook, t-none, SkipLook, k-none, and-look, then-look, row-look, less-look, max-look}
@@ -30,7 +30,7 @@ use Rattle.seek.proofs.Looks.{TightLook, t-none, SkipLook, k-none, and-
 
 module _ (src : Source) (rows : List ℕ) (good : Good src rows) (v : ℕ) (lv : v < 32) where
   -- a node's list is fine
-  pub fine : Fine 65536 (listOf src rows v)
+  pub fine : Fine 65536 (listOver src rows v)
   fine = fine-list (given src rows) rows 65536 good v lv
 
   -- and so are its operands'
@@ -40,25 +40,25 @@ module _ (src : Source) (rows : List ℕ) (good : Good src rows) (v : ℕ) (lv :
   -- a front is none, or starts below line 65,536
   pub first-small : (t : ℕ) → first src rows v t .start ≤ 65536
   unfolding first
-  first-small t = go (firstFrom (listOf src rows v) t) (first-good (listOf src rows v) (fine .rising) t)
+  first-small t = go (firstFrom (listOver src rows v) t) (first-good (listOver src rows v) (fine .rising) t)
     where
-      go : (g : fronts.Front) → FirstIs (listOf src rows v) t g → front g .start ≤ 65536
+      go : (g : fronts.Front) → FirstIs (listOver src rows v) t g → front g .start ≤ 65536
       go None h = omega arith
       go (At x) h = omega (arith, fine .sound (x .start) (x .end) (h .0), fine .below (x .start) (x .end) (h .0))
 
   -- what was found from t serves from any t' up to it
   pub stays : (t t' : ℕ) → t ≤ t' → t' ≤ first src rows v t .start → first src rows v t' ≡ first src rows v t
   unfolding first
-  stays t t' le ge = go (firstFrom (listOf src rows v) t) (first-good (listOf src rows v) (fine .rising) t) ge
+  stays t t' le ge = go (firstFrom (listOver src rows v) t) (first-good (listOver src rows v) (fine .rising) t) ge
     where
-      go : (g : fronts.Front) → FirstIs (listOf src rows v) t g → t' ≤ front g .start → front (firstFrom (listOf src rows v) t') ≡ front g
-      go None h k = ap front (first-none (listOf src rows v) (fine .rising) t' (λ s e m. omega (arith, h s e m)))
-      go (At x) h k = ap front (first-is (listOf src rows v) (fine .rising) t' (x .start) (x .end) (h .0) k (λ s e m p. h .2 s e m (omega arith) .1))
+      go : (g : fronts.Front) → FirstIs (listOver src rows v) t g → t' ≤ front g .start → front (firstFrom (listOver src rows v) t') ≡ front g
+      go None h k = ap front (first-none (listOver src rows v) (fine .rising) t' (λ s e m. omega (arith, h s e m)))
+      go (At x) h k = ap front (first-is (listOver src rows v) (fine .rising) t' (x .start) (x .end) (h .0) k (λ s e m p. h .2 s e m (omega arith) .1))
 
   -- nothing starts at line 65,536 or later
   pub past : (t : ℕ) → 65536 ≤ t → noneF ≡ first src rows v t
   unfolding first
-  past t h = ap front (sym (first-none (listOf src rows v) (fine .rising) t (λ a e m. omega (arith, fine .sound a e m, fine .below a e m))))
+  past t h = ap front (sym (first-none (listOver src rows v) (fine .rising) t (λ a e m. omega (arith, fine .sound a e m, fine .below a e m))))
 
 -- ── A node's list by its kind ──
 
@@ -77,22 +77,22 @@ no-operator m zero k h = refl
 no-operator m (suc n) k h = among-none m k n (omega arith)
 
 module _ (src : Source) (rows : List ℕ) (v : ℕ) (lv : v < 32) where
-  pub by-kind : (k : ℕ) → kindAt rows v ≡ k → listOf src rows v ≡ apply (operatorOf (measured src) k (firstAt rows v)) (ownList src k (firstAt rows v) (secondAt rows v)) (operandsOf (given src rows) rows v)
+  pub by-kind : (k : ℕ) → kindAt rows v ≡ k → listOver src rows v ≡ apply (operatorOf (measured src) k (firstAt rows v)) (ownList src k (firstAt rows v) (secondAt rows v)) (operandsOf (given src rows) rows v)
   by-kind k e =
       list-node (given src rows) rows v lv
       ∙ ap (λ (k : ℕ). apply (operatorOf (measured src) k (firstAt rows v)) (ownList src k (firstAt rows v) (secondAt rows v)) (operandsOf (given src rows) rows v)) e
 
-  pub row-list : kindAt rows v ≡ 16 → listOf src rows v ≡ marks 0 (row (src .words) (firstAt rows v) (secondAt rows v))
+  pub row-list : kindAt rows v ≡ 16 → listOver src rows v ≡ marks 0 (row (src .words) (firstAt rows v) (secondAt rows v))
   row-list e = by-kind 16 e
 
-  pub lent-list : kindAt rows v ≡ 17 → listOf src rows v ≡ lent (src .items) (firstAt rows v) (secondAt rows v)
+  pub lent-list : kindAt rows v ≡ 17 → listOver src rows v ≡ lent (src .items) (firstAt rows v) (secondAt rows v)
   lent-list e = by-kind 17 e
 
-  pub or-list : kindAt rows v ≡ 1 → listOf src rows v ≡ answers op.Or (operandsOf (given src rows) rows v)
+  pub or-list : kindAt rows v ≡ 1 → listOver src rows v ≡ answers op.Or (operandsOf (given src rows) rows v)
   or-list e = by-kind 1 e
 
   -- a kind that no list and no operator has
-  pub no-list : (kindAt rows v ≡ 0) ⊎ (6 < kindAt rows v) → (kindAt rows v ≡ 16 → ⊥) → (kindAt rows v ≡ 17 → ⊥) → listOf src rows v ≡ []
+  pub no-list : (kindAt rows v ≡ 0) ⊎ (6 < kindAt rows v) → (kindAt rows v ≡ 16 → ⊥) → (kindAt rows v ≡ 17 → ⊥) → listOver src rows v ≡ []
   no-list (inl e) a b = by-kind 0 e
   no-list (inr h) a b =
       by-kind (kindAt rows v) refl
@@ -107,7 +107,7 @@ pub record Narrowing (src : Source) (rows : List ℕ) (v : ℕ) : Type 0 where
   pub op : Op
   pub ls : List (List Stretch)
   pub fines : AllFine 65536 ls
-  pub is : listOf src rows v ≡ answers op ls
+  pub is : listOver src rows v ≡ answers op ls
   pub tight : (t : ℕ) → TightLook op ls t (look src rows v t)
 
 -- a candidate lies below line 65,536
@@ -163,13 +163,13 @@ module _ (src : Source) (rows : List ℕ) (good : Good src rows) (v : ℕ) (lv :
 
   skipping-by : (k : ℕ) → kindAt rows v ≡ k → ((ls : List (List Stretch)) → AllFine 65536 ls → (t : ℕ)
       → SkipLook (apply (operatorOf (measured src) k (firstAt rows v)) (ownList src k (firstAt rows v) (secondAt rows v)) ls) t (lookBy src k (firstAt rows v) ls t))
-      → (t : ℕ) → SkipLook (listOf src rows v) t (look src rows v t)
+      → (t : ℕ) → SkipLook (listOver src rows v) t (look src rows v t)
   skipping-by k e f t =
       let ls = operandsOf (given src rows) rows v in
       subst (λ (l : List Stretch). SkipLook l t (look src rows v t)) (sym (by-kind src rows v lv k e))
       (subst (SkipLook (apply (operatorOf (measured src) k (firstAt rows v)) (ownList src k (firstAt rows v) (secondAt rows v)) ls) t) (sym (look-kind k t e)) (f ls (fine-operands src rows good v lv) t))
 
-  pub skipping : Skips (kindAt rows v) → (t : ℕ) → SkipLook (listOf src rows v) t (look src rows v t)
+  pub skipping : Skips (kindAt rows v) → (t : ℕ) → SkipLook (listOver src rows v) t (look src rows v t)
   skipping (inl k) = skipping-by 3 k row-skip-look
   skipping (inr (inl k)) = skipping-by 5 k less-skip-look
   skipping (inr (inr k)) = skipping-by 6 k max-skip-look

@@ -11,7 +11,7 @@ use Rattle.stretches.proofs.Answers.{Cand}
 use Rattle.stretches.proofs.Tight.{Gone, Tight, gone-front, tight-front, tight-next}
 use Rattle.seek.specs.declared.Front.{Front}
 use Rattle.seek.specs.declared.fronts.Look.{Look}
-use Rattle.seek.specs.Source.{Source, listOf, Good}
+use Rattle.seek.specs.Source.{Source, listOver, Good}
 use Rattle.seek.specs.First.{atF, noneF, front, first, Ready}
 use Rattle.seek.specs.inner.Looks.{look, Sought, Looked, Narrows, Skips}
 use Rattle.seek.proofs.Looks.{TightLook, t-none, t-some, SkipLook, k-none, k-good, k-bad}
@@ -119,25 +119,25 @@ record Onward (src : Source) (rows : List ℕ) (v t : ℕ) (a : Look) : Type 0 w
   is : first src rows v t ≡ first src rows v (a .start + 1)
 
 module _ (src : Source) (rows : List ℕ) (v t : ℕ) where
-  skip-none : {a : Look} → SkipLook (listOf src rows v) t a → 65536 ≤ a .start → noneF ≡ first src rows v t
+  skip-none : {a : Look} → SkipLook (listOver src rows v) t a → 65536 ≤ a .start → noneF ≡ first src rows v t
   unfolding first
   skip-none (k-none e) n = ap front (sym e)
   skip-none (k-good _ lt _) n = absurd (omega arith)
   skip-none (k-bad _ lt _ _) n = absurd (omega arith)
 
-  skip-keep : {a : Look} → SkipLook (listOf src rows v) t a → a .good ≡ true → atF (a .start) (a .end) ≡ first src rows v t
+  skip-keep : {a : Look} → SkipLook (listOver src rows v) t a → a .good ≡ true → atF (a .start) (a .end) ≡ first src rows v t
   unfolding first
   skip-keep (k-none e) y = absurd (let z : _≡_ {A = ℕ} 0 1 = cc in omega arith)
   skip-keep (k-good _ _ e) y = ap front (sym e)
   skip-keep (k-bad n _ _ _) y = absurd (let z : _≡_ {A = ℕ} 0 1 = cc in omega arith)
 
-  skip-next : {a : Look} → SkipLook (listOf src rows v) t a → a .start < 65536 → a .good ≡ false → Onward src rows v t a
+  skip-next : {a : Look} → SkipLook (listOver src rows v) t a → a .start < 65536 → a .good ≡ false → Onward src rows v t a
   unfolding first
   skip-next (k-none e) lt n = absurd (omega arith)
   skip-next (k-good y _ _) lt n = absurd (let z : _≡_ {A = ℕ} 0 1 = cc in omega arith)
   skip-next (k-bad {r} _ _ lo e) lt n =
       let z : suc (r .start) ≡ r .start + 1 = omega arith in
-      record { from = lo; is = ap front (e ∙ ap (firstFrom (listOf src rows v)) z) }
+      record { from = lo; is = ap front (e ∙ ap (firstFrom (listOver src rows v)) z) }
 
 -- what is found from `from` on is what is found from t on
 pub record SkipInv (src : Source) (rows s₀ : List ℕ) (v t : ℕ) (s : List ℕ) (from : ℕ) : Type 0 where
@@ -151,11 +151,11 @@ module _ {src : Source} {rows s : List ℕ} {v t : ℕ} {s₁ : List ℕ} {from 
   skip-out ge e k = record { found = λ good rdy. let i = inv .at k good rdy in record { is = e ∙ (past src rows good v lv from ge ∙ i .1); ready = i .0 } }
 
   module _ {s' : List ℕ} {a : Look} (p : Looked src rows s₁ v from a s') where
-    skip-at : Skips (kindAt rows v) → Good src rows → Ready src rows s → Ready src rows s' × SkipLook (listOf src rows v) from a × (first src rows v from ≡ first src rows v t)
+    skip-at : Skips (kindAt rows v) → Good src rows → Ready src rows s → Ready src rows s' × SkipLook (listOver src rows v) from a × (first src rows v from ≡ first src rows v t)
     skip-at k good rdy =
         let i = inv .at k good rdy in
         let g = p .seen good (i .0) in
-        (g .ready, subst (SkipLook (listOf src rows v) from) (sym (g .is)) (skipping src rows good v lv k from), i .1)
+        (g .ready, subst (SkipLook (listOver src rows v) from) (sym (g .is)) (skipping src rows good v lv k from), i .1)
 
     pub skip-gone : {r : Front} → 65536 ≤ a .start → r ≡ noneF → Skips (kindAt rows v) → Sought src rows s v t r s'
     skip-gone n e k = record { found = λ good rdy. let g = skip-at k good rdy in record { is = e ∙ (skip-none src rows v from (g .1) n ∙ g .2); ready = g .0 } }

@@ -14,7 +14,7 @@ use Rattle.stretches.specs.Table.{kindAt, firstAt, nextOf, stopOf, operandsFrom
 use Rattle.stretches.proofs.Table.{stop-most, from-more, from-end}
 use Rattle.seek.specs.declared.Front.{Front}
 use Rattle.seek.specs.declared.fronts.Look.{Look}
-use Rattle.seek.specs.Source.{Source, measured, given, listOf, Good}
+use Rattle.seek.specs.Source.{Source, measured, given, listOver, Good}
 use Rattle.seek.specs.First.{atF, noneF, front, first, Ready}
 use Rattle.seek.specs.inner.Fronts.{pastOf, lookOf, noLook, goF, betterOf}
 use Rattle.seek.specs.inner.Looks.{spanFrom, chainFrom, clears, passes, others, lookBy, look, Sought, Looked, Passed, Tested, Chains, Filters}
@@ -27,7 +27,7 @@ use Rattle.seek.proofs.Nodes.{fine-operands, or-list, look-kind}
 abbrev pub left : Source → List ℕ → ℕ → ℕ → List (List Stretch)
 left src rows v c = operandsFrom (given src rows) rows (stopOf rows v) c
 
-left-more : (src : Source) (rows : List ℕ) (v c : ℕ) → v < 32 → c < stopOf rows v → left src rows v c ≡ listOf src rows c ∷ left src rows v (nextOf rows c)
+left-more : (src : Source) (rows : List ℕ) (v c : ℕ) → v < 32 → c < stopOf rows v → left src rows v c ≡ listOver src rows c ∷ left src rows v (nextOf rows c)
 left-more src rows v c lv lt = from-more (given src rows) rows (stopOf rows v) c lt (stop-most rows v)
 
 left-end : (src : Source) (rows : List ℕ) (v c : ℕ) → stopOf rows v ≤ c → left src rows v c ≡ []
@@ -57,9 +57,9 @@ or-turn {src} {rows} {s₀} {v} {t} {s} {s'} {c} {c'} {best} {best'} {f} lv inv 
   at = λ k good rdy.
       let i = inv .at k good rdy in
       let g = w .found good (i .0) in
-      let e : best' ≡ betterOf best (front (firstFrom (listOf src rows c) t)) = eb ∙ ap (betterOf best) (g .is) in (
+      let e : best' ≡ betterOf best (front (firstFrom (listOver src rows c) t)) = eb ∙ ap (betterOf best) (g .is) in (
         g .ready,
-        ap (λ (x : Front). bestFrom t x (left src rows v c')) e ∙ ap (λ (n : ℕ). bestFrom t (betterOf best (front (firstFrom (listOf src rows c) t))) (left src rows v n)) ec
+        ap (λ (x : Front). bestFrom t x (left src rows v c')) e ∙ ap (λ (n : ℕ). bestFrom t (betterOf best (front (firstFrom (listOver src rows c) t))) (left src rows v n)) ec
             ∙ (sym (ap (bestFrom t best) (left-more src rows v c lv lt)) ∙ i .1),
       );
 }
@@ -153,13 +153,13 @@ module _ {src : Source} {rows s s₁ : List ℕ} {v t : ℕ} {a : Front} (lv : v
       let z = left-more src rows v (v + 1) lv some in
       (g .ready, ap (λ (x : Front). goF x (λ f. chainFrom (tightAt rows v) (f .start) (f .end) (left src rows v (nextOf rows (v + 1))))) (g .is) ∙ by k good z)
     where
-      by : Chains (kindAt rows v) → Good src rows → left src rows v (v + 1) ≡ listOf src rows (v + 1) ∷ left src rows v (nextOf rows (v + 1))
-          → goF (front (firstFrom (listOf src rows (v + 1)) t)) (λ f. chainFrom (tightAt rows v) (f .start) (f .end) (left src rows v (nextOf rows (v + 1)))) ≡ look src rows v t
+      by : Chains (kindAt rows v) → Good src rows → left src rows v (v + 1) ≡ listOver src rows (v + 1) ∷ left src rows v (nextOf rows (v + 1))
+          → goF (front (firstFrom (listOver src rows (v + 1)) t)) (λ f. chainFrom (tightAt rows v) (f .start) (f .end) (left src rows v (nextOf rows (v + 1)))) ≡ look src rows v t
       by (inl k) good z =
-          ap (λ b. goF (front (firstFrom (listOf src rows (v + 1)) t)) (λ f. chainFrom b (f .start) (f .end) (left src rows v (nextOf rows (v + 1))))) (eq-eqb (kindAt rows v) 3 k)
+          ap (λ b. goF (front (firstFrom (listOver src rows (v + 1)) t)) (λ f. chainFrom b (f .start) (f .end) (left src rows v (nextOf rows (v + 1))))) (eq-eqb (kindAt rows v) 3 k)
           ∙ sym (look-kind src rows good v lv 3 t k ∙ ap (λ (ls : List (List Stretch)). lookBy src 3 (firstAt rows v) ls t) z)
       by (inr k) good z =
-          ap (λ b. goF (front (firstFrom (listOf src rows (v + 1)) t)) (λ f. chainFrom b (f .start) (f .end) (left src rows v (nextOf rows (v + 1))))) (ne-eqb (kindAt rows v) 3 (λ z. omega arith))
+          ap (λ b. goF (front (firstFrom (listOver src rows (v + 1)) t)) (λ f. chainFrom b (f .start) (f .end) (left src rows v (nextOf rows (v + 1))))) (ne-eqb (kindAt rows v) 3 (λ z. omega arith))
           ∙ sym (look-kind src rows good v lv 4 t k ∙ ap (λ (ls : List (List Stretch)). lookBy src 4 (firstAt rows v) ls t) z)
 
   pub chain-gone : {r : Look} → 65536 ≤ a .start → r ≡ noLook → Chains (kindAt rows v) → Looked src rows s v t r s₁
@@ -192,7 +192,7 @@ module _ {src : Source} {rows s₁ : List ℕ} {v t m e₁ : ℕ} {s s' : List �
       let g = w .found good (i .0) in (
         g .ready,
         ap (λ (y : Front). goF y (λ x. cond (tightAt rows v && not (eqb (x .start) to)) (lookOf m e false) (chainFrom (tightAt rows v) m (x .end) (left src rows v (nextOf rows c))))) (g .is)
-            ∙ ap (λ (n : ℕ). goF (front (firstFrom (listOf src rows c) n)) (λ x. cond (tightAt rows v && not (eqb (x .start) n)) (lookOf m e false) (chainFrom (tightAt rows v) m (x .end) (left src rows v (nextOf rows c))))) et
+            ∙ ap (λ (n : ℕ). goF (front (firstFrom (listOver src rows c) n)) (λ x. cond (tightAt rows v && not (eqb (x .start) n)) (lookOf m e false) (chainFrom (tightAt rows v) m (x .end) (left src rows v (nextOf rows c))))) et
             ∙ (sym (ap (chainFrom (tightAt rows v) m e) (left-more src rows v c lv lt)) ∙ i .1),
       )
 
@@ -286,7 +286,7 @@ module _ {src : Source} {rows s s₁ : List ℕ} {v t : ℕ} {a : Front} (lv : v
       let z = left-more src rows v (v + 1) lv some in (
         g .ready,
         ap (λ (x : Front). goF x (λ f. lookOf (f .start) (f .end) (passes src (kindAt rows v) (firstAt rows v) (others (operandsOf (given src rows) rows v)) f))) (g .is)
-            ∙ ap (λ (ls : List (List Stretch)). goF (front (firstFrom (listOf src rows (v + 1)) t)) (λ f. lookOf (f .start) (f .end) (passes src (kindAt rows v) (firstAt rows v) (others ls) f))) z
+            ∙ ap (λ (ls : List (List Stretch)). goF (front (firstFrom (listOver src rows (v + 1)) t)) (λ f. lookOf (f .start) (f .end) (passes src (kindAt rows v) (firstAt rows v) (others ls) f))) z
             ∙ sym (ap (λ (ls : List (List Stretch)). lookBy src (kindAt rows v) (firstAt rows v) ls t) z ∙ simp (ne-eqb (kindAt rows v) 2 (k .0), ne-eqb (kindAt rows v) 3 (k .1), ne-eqb (kindAt rows v) 4 (k .2))),
       )
 

@@ -6,7 +6,7 @@ use lib.ListN.{length, getD}
 use Rattle.stretches.specs.Front as fronts
 use Rattle.stretches.specs.Front.{firstFrom}
 use Rattle.seek.specs.declared.Front.{Front}
-use Rattle.seek.specs.Source.{Source, listOf, Good}
+use Rattle.seek.specs.Source.{Source, listOver, Good}
 
 -- ── Fronts: none is line 65,536, one past every line ──
 
@@ -35,7 +35,7 @@ askedAt s v = getD s (64 + v) 0
 
 -- the first stretch of node v's list that starts at or after t
 unfoldable pub first : Source → List ℕ → ℕ → ℕ → Front
-first src rows v t = front (firstFrom (listOf src rows v) t)
+first src rows v t = front (firstFrom (listOver src rows v) t)
 
 -- what is kept of a node is what it finds from the line that was asked
 pub record Ready (src : Source) (rows s : List ℕ) : Type 0 where

@@ -12,7 +12,7 @@ use borrow.Author.Tests.{eqb-true, eq-eqb, ne-eqb}
 use native.Mathlib.Omega.{arith}
 use Rattle.stretches.specs.Stretch.{Stretch}
 use Rattle.stretches.proofs.Answers.{Sound}
-use Rattle.stretches.proofs.Cut.{Below}
+use Rattle.stretches.proofs.InRun.{Below}
 use Rattle.records.specs.Line.{says}
 use Rattle.lines.proofs.LinesLaws.{cut-few}
 use Rattle.records.proofs.Walk.{damaged-few}
@@ -31,7 +31,7 @@ use Rattle.marking.specs.declared.pass.Counted.{Counted}
 use Rattle.marking.specs.Rows.{counted}
 use Rattle.input.specs.declared.Taken.{Taken}
 use Rattle.input.specs.Input.{patternOf, logOf, Keeps}
-use Rattle.print.specs.Print.{field, rows, foundSheet, refusedSheet, shown, Lays}
+use Rattle.print.specs.Print.{field, rows, foundSheet, refusedSheet, shown, Writes}
 use Rattle.print.proofs.Decimals.{length-below}
 use Rattle.print.proofs.Printed.{length-field, shown-flat}
 use Rattle.print.proofs.Written.{length-found, length-refused}
@@ -61,9 +61,9 @@ filled-sheet pattern log cells h =
 
 -- so the sheet that is written of it is that one
 pub fill-laid : (pattern log cells cells′ out out′ : List ℕ) (f : Filled) (r : ℕ) → (f ≡ filling pattern log 0 cells) × (cells′ ≡ filled (listOf pattern log) 0 cells) → 122880 ≤ length cells
-    → Lays (sheetOf f log cells′) out r out′ → Lays (printed pattern log) out r out′
+    → Writes (sheetOf f log cells′) out r out′ → Writes (printed pattern log) out r out′
 fill-laid pattern log cells cells′ out out′ f r g h w =
-    subst (λ (s : List ℕ). Lays s out r out′) (ap₂ (λ (x : Filled) (m : List ℕ). sheetOf x log m) (g .0) (g .1) ∙ filled-sheet pattern log cells h) w
+    subst (λ (s : List ℕ). Writes s out r out′) (ap₂ (λ (x : Filled) (m : List ℕ). sheetOf x log m) (g .0) (g .1) ∙ filled-sheet pattern log cells h) w
 
 -- ── Cut short ──
 

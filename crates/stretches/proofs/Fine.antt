@@ -8,7 +8,7 @@ use native.Mathlib.Omega.{arith}
 use Rattle.stretches.specs.Stretch.{Stretch, Fine, Op, answers, marks}
 use Rattle.stretches.specs.Operators.{apply}
 use Rattle.stretches.proofs.Answers.{AllRising, AllSound, rising-answers, sound-answers}
-use Rattle.stretches.proofs.Cut.{AllBelow, below-answers}
+use Rattle.stretches.proofs.InRun.{AllBelow, below-answers}
 use Rattle.stretches.proofs.Marks.{in-marks, rising-marks}
 
 pub record AllFine (n : ℕ) (ls : List (List Stretch)) : Type 0 where

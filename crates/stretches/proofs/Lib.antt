@@ -4,7 +4,7 @@ pub mod Answers
 pub mod Orders
 pub mod Fronts
 pub mod Window
-pub mod Cut
+pub mod InRun
 pub mod Marks
 pub mod Steps
 pub mod Ordered

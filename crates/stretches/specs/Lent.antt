@@ -1,5 +1,5 @@
 -- Lent lists: one run of starts and ends in turn holding the lists one after another, and one run with the place where each list ends:
--- the paper's "Finding".
+-- document 01's "Finding".
 -- Assumes nothing.
 use Prim.Native.Nat.{ℕ, zero, suc, _-_}
 use mathlib.Core.List.{List, [], _∷_}

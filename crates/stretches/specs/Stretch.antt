@@ -1,4 +1,4 @@
--- Stretches of lines, rising lists of them, and what the six operators answer: document 001 section 3, and the paper's "What the operators mean".
+-- Stretches of lines, rising lists of them, and what the six operators answer: document 001 section 3, and document 01's "What the operators mean".
 -- Assumes nothing.
 use Prim.Native.Nat.{ℕ, suc, _-_, _≤_, _<_, min, max}
 use mathlib.Core.Path.{_≡_}
@@ -61,13 +61,13 @@ abbrev pub before : Stretch → Stretch → Bool
 before x y = ltb (x .start) (y .start) || (eqb (x .start) (y .start) && ltb (x .end) (y .end))
 
 -- each once, in rising order
-abbrev pub place : Stretch → List Stretch → List Stretch
-place x [] = x ∷ []
-place x (y ∷ ys) = cond (before x y) (x ∷ y ∷ ys) (cond (same x y) (y ∷ ys) (y ∷ place x ys))
+abbrev pub insert : Stretch → List Stretch → List Stretch
+insert x [] = x ∷ []
+insert x (y ∷ ys) = cond (before x y) (x ∷ y ∷ ys) (cond (same x y) (y ∷ ys) (y ∷ insert x ys))
 
 abbrev pub arrange : List Stretch → List Stretch
 arrange [] = []
-arrange (x ∷ xs) = place x (arrange xs)
+arrange (x ∷ xs) = insert x (arrange xs)
 
 -- the candidates with no other candidate inside, each once, in rising order
 abbrev pub minimal : List Stretch → List Stretch

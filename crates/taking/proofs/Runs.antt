@@ -9,7 +9,7 @@ use lib.ListN.{length, take, drop, replicate, length-replicate}
 use lib.Seq.{take-at, drop-at}
 use Rattle.stretches.specs.Stretch.{Stretch, st, answers}
 use Rattle.stretches.specs.Front.{Front, None, nth}
-use Rattle.stretches.specs.Taking.{Taken, total, skip, shrink, orHand, andHand, andFrom, next, taking}
+use Rattle.stretches.specs.Taking.{AnswerCounts, total, skip, shrink, orHand, andHand, andFrom, next, taking}
 use Rattle.stretches.proofs.Taking.{or-taken, or-stays, and-taken, and-stays, nth-none}
 use Rattle.stretches.specs.Lent.{listsOf}
 use Rattle.stretches.proofs.Fine.{AllFine}

@@ -14,7 +14,7 @@ use Rattle.basics.proofs.Basics.{and-true, or-false}
 use Rattle.stretches.specs.Stretch.{lengthOf}
 use Rattle.stretches.specs.Operators.{operatorOf}
 use Rattle.stretches.specs.Lent.{listsOf}
-use Rattle.meaning.specs.Refusals.{takesLists, mistaken, takingRefusal}
+use Rattle.meaning.specs.Refusals.{takesLists, miscalledTaking, takingRefusal}
 use Rattle.taking.specs.declared.queue.Item.{Item}
 use Rattle.taking.specs.declared.Taken.{Taken}
 use Rattle.taking.specs.Taking.{takenBy, given, notTaken, takeResult, takeCells}
@@ -53,7 +53,7 @@ module _ (op : ℕ) (items ends counts : List ℕ) (p : ℕ) where
     pub takes : Takes
     unfolding takingRefusal
     takes =
-        let a = accepted (mistaken op ends counts) items ends (sym is ∙ yes) in
+        let a = accepted (miscalledTaking op ends counts) items ends (sym is ∙ yes) in
         let u = or-false (not (leb 1 op && leb op 2)) (not (takesLists op (length ends)) || ltb (length counts) (length ends)) (a .called) in
         let v = and-true (leb 1 op) (leb op 2) (not-false (leb 1 op && leb op 2) (u .0)) in
         let w = or-false (not (takesLists op (length ends))) (ltb (length counts) (length ends)) (u .1) in
@@ -70,14 +70,14 @@ module _ (op : ℕ) (items ends counts : List ℕ) (p : ℕ) where
       pub take-given : (r : Taken) → r ≡ given (frontOf c) → r ≡ takeResult op items ends counts p
       unfolding takeResult
       take-given r e =
-          e ∙ (ap (λ (s : algorithm.Taken). given (s .answer)) (sym ran)
+          e ∙ (ap (λ (s : algorithm.AnswerCounts). given (s .answer)) (sym ran)
           ∙ sym (ap (λ b. cond b (given (takenBy (operatorOf lengthOf op 0) (listsOf items ends) p .answer)) (notTaken (takingRefusal op items ends counts))) on))
 
       pub take-counted : counts′ ≡ takeCells op items ends counts p
       unfolding takeCells
       take-counted =
           sym (take-append-drop (length ends) counts′)
-          ∙ (ap₂ _++_ (ap (λ (s : algorithm.Taken). s .counts) (sym ran)) (h .rest)
+          ∙ (ap₂ _++_ (ap (λ (s : algorithm.AnswerCounts). s .counts) (sym ran)) (h .rest)
           ∙ sym (ap (λ b. cond b (takenBy (operatorOf lengthOf op 0) (listsOf items ends) p .counts ++ drop (length ends) counts) counts) on))
 
       pub take-found : c .found ≡ true → record { number = 0; found = true; start = c .start; end = c .end } ≡ given (frontOf c)

@@ -11,7 +11,7 @@ use lib.Dec.{eqb}
 use borrow.Author.Tests.{eq-eqb, ne-eqb, eqb-true, not-false}
 use Rattle.stretches.specs.Stretch.{Stretch, st}
 use Rattle.stretches.specs.Front.{Front, None, At}
-use Rattle.stretches.specs.Taking.{Taken, Order, fronts, top, span, contains, advance, startsFirst, total, skip, isTop, again, shrink}
+use Rattle.stretches.specs.Taking.{AnswerCounts, Order, fronts, top, span, contains, advance, startsFirst, total, skip, isTop, again, shrink}
 use Rattle.stretches.specs.Lent.{pairs, listsFrom, listsOf}
 use Rattle.meaning.specs.Refusals.{miscutFrom, miscut}
 use Rattle.taking.specs.declared.queue.Item.{Item}

@@ -1,4 +1,4 @@
--- The taking call over lent lists: what it returns, and what it leaves in every count cell: the paper's "Finding".
+-- The taking call over lent lists: what it returns, and what it leaves in every count cell: document 01's "Finding".
 -- Assumes nothing.
 use Prim.Native.Nat.{ℕ}
 use mathlib.Core.Bool.{true, false, cond}
@@ -16,11 +16,11 @@ use Rattle.meaning.specs.Refusals.{takingRefusal}
 use Rattle.taking.specs.declared.Taken.{Taken}
 
 -- answer number p or "none" with the items taken, by the operator's algorithm
-abbrev pub takenBy : Option Op → List (List Stretch) → ℕ → algorithm.Taken
+abbrev pub takenBy : Option Op → List (List Stretch) → ℕ → algorithm.AnswerCounts
 takenBy none ls p = begun ls
 takenBy (some o) ls p = taking o ls p
 
-abbrev pub takenOf : ℕ → List ℕ → List ℕ → ℕ → algorithm.Taken
+abbrev pub takenOf : ℕ → List ℕ → List ℕ → ℕ → algorithm.AnswerCounts
 takenOf op items ends p = takenBy (operatorOf lengthOf op 0) (listsOf items ends) p
 
 -- an answer, or "none"

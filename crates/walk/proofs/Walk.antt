@@ -14,7 +14,7 @@ use Rattle.stretches.specs.Front.{onward}
 use Rattle.stretches.specs.Filling.{pairsIn, written, moreAfter}
 use Rattle.stretches.proofs.Filling.{drop-step, Partly, partly-more, partly-done, partly-all}
 use Rattle.seek.specs.declared.Front.{Front}
-use Rattle.seek.specs.Source.{Source, listOf, Good}
+use Rattle.seek.specs.Source.{Source, listOver, Good}
 use Rattle.seek.specs.First.{first, Ready, FirstOf}
 use Rattle.seek.proofs.Nodes.{fine}
 use Rattle.seek.proofs.State.{ready-none}
@@ -27,7 +27,7 @@ use Rattle.walk.specs.inner.Walks.{PassedOver, Put}
 
 -- the answers from a line on
 abbrev pub rest : Source → List ℕ → ℕ → List Stretch
-rest src rows t = onward (listOf src rows 0) t
+rest src rows t = onward (listOver src rows 0) t
 
 module _ {src : Source} {rows s : List ℕ} {t : ℕ} {f : Front} {s' : List ℕ} (g : FirstOf src rows s 0 t f s') (good : Good src rows) (rdy : Ready src rows s) where
   step-ready : Ready src rows s'
@@ -35,11 +35,11 @@ module _ {src : Source} {rows s : List ℕ} {t : ℕ} {f : Front} {s' : List ℕ
 
   step-none : 65536 ≤ f .start → rest src rows t ≡ []
   unfolding first
-  step-none n = front-none (listOf src rows 0) (fine src rows good 0 (omega arith)) t f (g .finds (omega arith) good rdy .is) n .1
+  step-none n = front-none (listOver src rows 0) (fine src rows good 0 (omega arith)) t f (g .finds (omega arith) good rdy .is) n .1
 
   step-some : f .start < 65536 → rest src rows t ≡ st (f .start) (f .end) ∷ rest src rows (f .start + 1)
   unfolding first
-  step-some lt = front-some (listOf src rows 0) (fine src rows good 0 (omega arith)) t f (g .finds (omega arith) good rdy .is) lt .1
+  step-some lt = front-some (listOver src rows 0) (fine src rows good 0 (omega arith)) t f (g .finds (omega arith) good rdy .is) lt .1
 
 -- ── Answers passed over ──
 

@@ -6,7 +6,7 @@ use lib.ListN.{length, drop}
 use Rattle.stretches.specs.Stretch.{Stretch}
 use Rattle.stretches.specs.Front.{onward}
 use Rattle.stretches.specs.Filling.{written, filled, moreAfter}
-use Rattle.seek.specs.Source.{Source, listOf, Good}
+use Rattle.seek.specs.Source.{Source, listOver, Good}
 use Rattle.walk.specs.declared.Walked.{Walked}
 
 -- l's answers from number f were written into cells
@@ -17,7 +17,7 @@ pub record Filling (l : List Stretch) (f : ℕ) (cells : List ℕ) (r : Walked) 
 
 -- where every list is fine, the answers of node 0 from the line on, from number f of them on
 pub record FillAll (src : Source) (rows : List ℕ) (line f : ℕ) (cells : List ℕ) (r : Walked) (cells' : List ℕ) : Type 0 where
-  pub fills : Good src rows → Filling (onward (listOf src rows 0) line) f cells r cells'
+  pub fills : Good src rows → Filling (onward (listOver src rows 0) line) f cells r cells'
 
 -- whatever the table and the source: the written pairs fit, and what is beyond them keeps its contents
 pub record Within (cells : List ℕ) (r : Walked) (cells' : List ℕ) : Type 0 where

@@ -9,7 +9,7 @@ put-requires c κs =
     let s = c .before .before .before .before .before .before .before .before .before .before in
     let a = c .before .before .before .before .before .before .first in
     let b = c .before .before .before .before .before .first2 in
-    let o = c .before .before .before .before .before .before .before .paper in
+    let o = c .before .before .before .before .before .before .before .sheet-buffer in
     let w = c .before .before .before .print-sheet in
     held-prints (s .args .t) (s .args .pattern .now) (s .args .log .now) (a .result .now) (b .result .now) (o .result) _ (c .first3 .result .now) (w .result) (s .pre) (a .ensures) (b .ensures)
     (o .ensures) (w .ensures) (c .first3 .ensures)

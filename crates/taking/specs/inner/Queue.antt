@@ -56,11 +56,11 @@ pub record Moved (n : ℕ) (ks before after : List ℕ) : Type 0 where
   pub rest : drop n after ≡ drop n before
 
 -- an answer with the first n cells
-abbrev pub handed : ℕ → List ℕ → Item → taking.Taken
+abbrev pub handed : ℕ → List ℕ → Item → taking.AnswerCounts
 handed n cells r = record { answer = frontOf r; counts = take n cells }
 
 -- what was handed out with the first n cells is s, and the other cells kept their contents
-pub record Handed (n : ℕ) (s : taking.Taken) (before after : List ℕ) (r : Item) : Type 0 where
+pub record Handed (n : ℕ) (s : taking.AnswerCounts) (before after : List ℕ) (r : Item) : Type 0 where
   pub wide : length after ≡ length before
   pub is : handed n after r ≡ s
   pub rest : drop n after ≡ drop n before
