@@ -2,58 +2,59 @@
 -- Assumes nothing.
 use Prim.Native.Nat.{ℕ, _+_, _≤_, _<_}
 use mathlib.Core.Path.{_≡_, sym, ap, _∙_}
-use mathlib.Core.Bool.{Bool, cond}
+use mathlib.Core.Bool.{Bool, true, false, cond}
 use lib.Dec.{ltb}
-use borrow.Author.Tests.{le-leb, lt-leb, lt-ltb, le-ltb, eq-eqb, ne-eqb}
+use borrow.Author.Tests.{le-leb, lt-leb, lt-ltb, le-ltb}
 use native.Mathlib.Omega.{arith}
+use Rattle.pattern.specs.declared.Values.{Values}
 use Rattle.pattern.specs.declared.State.{State}
 use Rattle.pattern.specs.declared.State.the-variants.{Letters, Field, Digits}
 use Rattle.pattern.specs.declared.Step.the-variants.{Dead, Within}
-use Rattle.pattern.specs.Automaton.{fieldCount, low, firstField, secondField, shut, numberEnd, final, endOf}
+use Rattle.pattern.specs.Kinds.{fieldCount, low}
+use Rattle.pattern.specs.Automaton.{firstField, secondField, thirdField, shut, numberEnd}
+use Rattle.pattern.specs.inner.Scanner.{Follow, final, endOf}
 
--- a comma after a symbol's last number shuts the symbol
-end-last : (k j a v n l f : ℕ) → l ≡ low k j → f ≡ fieldCount k → l ≤ v → f ≤ j + 1 → numberEnd k j a v n ≡ shut k (firstField j a v) (secondField j v) n
-end-last k j a v n l f e g p q =
-    ap (λ (c : Bool). cond c (cond (ltb (j + 1) (fieldCount k)) (Within (Field k (j + 1) v n)) (shut k (firstField j a v) (secondField j v) n)) Dead) (le-leb (low k j) v (omega arith))
-    ∙ ap (λ (c : Bool). cond c (Within (Field k (j + 1) v n)) (shut k (firstField j a v) (secondField j v) n)) (le-ltb (j + 1) (fieldCount k) (omega arith))
+module _ (k j a c v n l : ℕ) (el : l ≡ low k j) where
+  -- a comma after a number below its range
+  pub end-low : v < l → Dead ≡ numberEnd k j a c v n
+  end-low h = sym (ap (λ (t : Bool). cond t (cond (ltb (j + 1) (fieldCount k)) (Within (Field k (j + 1) (firstField j a v) (secondField j c v) n)) (shut k (firstField j a v) (secondField j c v) (thirdField j v) n)) Dead) (lt-leb (low k j) v (omega arith)))
 
--- its first
-pub end-first : (k j a v n l f : ℕ) → l ≡ low k j → f ≡ fieldCount k → l ≤ v → f ≤ j + 1 → j ≡ 0 → shut k v 0 n ≡ numberEnd k j a v n
-end-first k j a v n l f e g p q z = sym (end-last k j a v n l f e g p q ∙ ap (λ (c : Bool). shut k (cond c v a) (cond c 0 v) n) (eq-eqb j 0 z))
+  module _ (f : ℕ) (ef : f ≡ fieldCount k) (r : Values) (w : Follow j a c v r) (h : l ≤ v) where
+    end-at : (t : Bool) → ltb (j + 1) (fieldCount k) ≡ t → numberEnd k j a c v n ≡ cond t (Within (Field k (j + 1) (r .first) (r .second) n)) (shut k (r .first) (r .second) (r .third) n)
+    end-at t e = simp (le-leb (low k j) v (omega arith), e, w .first, w .second, w .third)
 
--- its second
-pub end-second : (k j a v n l f : ℕ) → l ≡ low k j → f ≡ fieldCount k → l ≤ v → f ≤ j + 1 → (j ≡ 0 → ⊥) → shut k a v n ≡ numberEnd k j a v n
-end-second k j a v n l f e g p q z = sym (end-last k j a v n l f e g p q ∙ ap (λ (c : Bool). shut k (cond c v a) (cond c 0 v) n) (ne-eqb j 0 z))
+    -- a comma before a further number
+    pub end-more : j + 1 < f → Within (Field k (j + 1) (r .first) (r .second) n) ≡ numberEnd k j a c v n
+    end-more p = sym (end-at true (lt-ltb (j + 1) (fieldCount k) (omega arith)))
+
+    -- a comma after the last
+    pub end-last : f ≤ j + 1 → shut k (r .first) (r .second) (r .third) n ≡ numberEnd k j a c v n
+    end-last p = sym (end-at false (le-ltb (j + 1) (fieldCount k) (omega arith)))
 
 -- ── The end of the text after a number ──
 
-module _ (s : State) (k j a v n : ℕ) (e : s ≡ Digits k j a v n) (l f : ℕ) (el : l ≡ low k j) (ef : f ≡ fieldCount k) where
+module _ {s : State} {k j a c v n : ℕ} (e : s ≡ Digits k j a c v n) (l : ℕ) (el : l ≡ low k j) where
   pub last-low : v < l → Dead ≡ endOf s
   unfolding endOf
-  last-low h = sym (ap endOf e ∙ ap (λ (c : Bool). cond c (cond (ltb (j + 1) (fieldCount k)) Dead (final k (firstField j a v) (secondField j v) n)) Dead) (lt-leb (low k j) v (omega arith)))
+  last-low h = sym (ap endOf e ∙ simp (lt-leb (low k j) v (omega arith)))
 
-  in-range : l ≤ v → endOf s ≡ cond (ltb (j + 1) (fieldCount k)) Dead (final k (firstField j a v) (secondField j v) n)
-  unfolding endOf
-  in-range h = ap endOf e ∙ ap (λ (c : Bool). cond c (cond (ltb (j + 1) (fieldCount k)) Dead (final k (firstField j a v) (secondField j v) n)) Dead) (le-leb (low k j) v (omega arith))
+  module _ (f : ℕ) (ef : f ≡ fieldCount k) (h : l ≤ v) where
+    last-at : (t : Bool) → ltb (j + 1) (fieldCount k) ≡ t → endOf s ≡ cond t Dead (final k (firstField j a v) (secondField j c v) (thirdField j v) n)
+    unfolding endOf
+    last-at t q = ap endOf e ∙ simp (le-leb (low k j) v (omega arith), q)
 
-  pub last-more : l ≤ v → j + 1 < f → Dead ≡ endOf s
-  last-more h p = sym (in-range h ∙ ap (λ (c : Bool). cond c Dead (final k (firstField j a v) (secondField j v) n)) (lt-ltb (j + 1) (fieldCount k) (omega arith)))
+    pub last-more : j + 1 < f → Dead ≡ endOf s
+    last-more p = sym (last-at true (lt-ltb (j + 1) (fieldCount k) (omega arith)))
 
-  last-whole : l ≤ v → f ≤ j + 1 → endOf s ≡ final k (firstField j a v) (secondField j v) n
-  last-whole h p = in-range h ∙ ap (λ (c : Bool). cond c Dead (final k (firstField j a v) (secondField j v) n)) (le-ltb (j + 1) (fieldCount k) (omega arith))
-
-  pub last-first : l ≤ v → f ≤ j + 1 → j ≡ 0 → final k v 0 n ≡ endOf s
-  last-first h p z = sym (last-whole h p ∙ ap (λ (c : Bool). final k (cond c v a) (cond c 0 v) n) (eq-eqb j 0 z))
-
-  pub last-second : l ≤ v → f ≤ j + 1 → (j ≡ 0 → ⊥) → final k a v n ≡ endOf s
-  last-second h p z = sym (last-whole h p ∙ ap (λ (c : Bool). final k (cond c v a) (cond c 0 v) n) (ne-eqb j 0 z))
+    pub last-whole : (r : Values) → Follow j a c v r → f ≤ j + 1 → final k (r .first) (r .second) (r .third) n ≡ endOf s
+    last-whole r w p = sym (last-at false (le-ltb (j + 1) (fieldCount k) (omega arith)) ∙ simp (w .first, w .second, w .third))
 
 -- no text ends in a word
-pub last-letters : (s : State) (t n : ℕ) → s ≡ Letters t n → Dead ≡ endOf s
+pub last-letters : {s : State} {r m n : ℕ} → s ≡ Letters r m n → Dead ≡ endOf s
 unfolding endOf
-last-letters s t n e = sym (ap endOf e)
+last-letters e = sym (ap endOf e)
 
 -- nor after a comma
-pub last-field : (s : State) (k j a n : ℕ) → s ≡ Field k j a n → Dead ≡ endOf s
+pub last-field : {s : State} {k j a c n : ℕ} → s ≡ Field k j a c n → Dead ≡ endOf s
 unfolding endOf
-last-field s k j a n e = sym (ap endOf e)
+last-field e = sym (ap endOf e)

@@ -2,65 +2,65 @@
 -- Assumes nothing.
 use mathlib.Core.Path.{_≡_, refl}
 use mathlib.Core.List.{[], _∷_}
-use Rattle.pattern.specs.Pattern.{Ev, Then, Node, Nil, Cons}
-use Rattle.pattern.specs.Automaton.{child, wordAt, step, finish, scan}
+use Rattle.pattern.specs.Kinds.{Ev, Then, kindIn, rowOf, kindBy}
+use Rattle.pattern.specs.Pattern.{Node, Nil, Cons}
+use Rattle.pattern.specs.Automaton.{next, step, finish, scan}
 use Rattle.pattern.specs.Reading.{build, outcomeOf, Accepts}
-use Rattle.pattern.specs.Rows.{symbol}
 use Rattle.pattern.proofs.Trees.{Misread, reading}
 
 -- or,1,ev,1,0
 or-one : Misread (111 ∷ 114 ∷ 44 ∷ 49 ∷ 44 ∷ 101 ∷ 118 ∷ 44 ∷ 49 ∷ 44 ∷ 48 ∷ []) 4
-unfolding child wordAt step finish scan
+unfolding kindIn kindBy rowOf next step finish scan
 or-one = reading (111 ∷ 114 ∷ 44 ∷ 49 ∷ 44 ∷ 101 ∷ 118 ∷ 44 ∷ 49 ∷ 44 ∷ 48 ∷ [])
 
 -- or,0
 or-none : Misread (111 ∷ 114 ∷ 44 ∷ 48 ∷ []) 3
-unfolding child wordAt step finish scan
+unfolding kindIn kindBy rowOf next step finish scan
 or-none = reading (111 ∷ 114 ∷ 44 ∷ 48 ∷ [])
 
 -- or,40
 or-forty : Misread (111 ∷ 114 ∷ 44 ∷ 52 ∷ 48 ∷ []) 4
-unfolding child wordAt step finish scan
+unfolding kindIn kindBy rowOf next step finish scan
 or-forty = reading (111 ∷ 114 ∷ 44 ∷ 52 ∷ 48 ∷ [])
 
 -- ev,256,0
 event-high : Misread (101 ∷ 118 ∷ 44 ∷ 50 ∷ 53 ∷ 54 ∷ 44 ∷ 48 ∷ []) 5
-unfolding child wordAt step finish scan
+unfolding kindIn kindBy rowOf next step finish scan
 event-high = reading (101 ∷ 118 ∷ 44 ∷ 50 ∷ 53 ∷ 54 ∷ 44 ∷ 48 ∷ [])
 
 -- ev,0
 event-zero : Misread (101 ∷ 118 ∷ 44 ∷ 48 ∷ []) 3
-unfolding child wordAt step finish scan
+unfolding kindIn kindBy rowOf next step finish scan
 event-zero = reading (101 ∷ 118 ∷ 44 ∷ 48 ∷ [])
 
 -- max,65536
 max-high : Misread (109 ∷ 97 ∷ 120 ∷ 44 ∷ 54 ∷ 53 ∷ 53 ∷ 51 ∷ 54 ∷ []) 8
-unfolding child wordAt step finish scan
+unfolding kindIn kindBy rowOf next step finish scan
 max-high = reading (109 ∷ 97 ∷ 120 ∷ 44 ∷ 54 ∷ 53 ∷ 53 ∷ 51 ∷ 54 ∷ [])
 
 -- fr,11
 frame-high : Misread (102 ∷ 114 ∷ 44 ∷ 49 ∷ 49 ∷ []) 4
-unfolding child wordAt step finish scan
+unfolding kindIn kindBy rowOf next step finish scan
 frame-high = reading (102 ∷ 114 ∷ 44 ∷ 49 ∷ 49 ∷ [])
 
 -- ev,1,0,
 comma : Misread (101 ∷ 118 ∷ 44 ∷ 49 ∷ 44 ∷ 48 ∷ 44 ∷ []) 6
-unfolding child wordAt step finish scan
+unfolding kindIn kindBy rowOf next step finish scan
 comma = reading (101 ∷ 118 ∷ 44 ∷ 49 ∷ 44 ∷ 48 ∷ 44 ∷ [])
 
 -- then,2,ev,1,0
 unfinished : Misread (116 ∷ 104 ∷ 101 ∷ 110 ∷ 44 ∷ 50 ∷ 44 ∷ 101 ∷ 118 ∷ 44 ∷ 49 ∷ 44 ∷ 48 ∷ []) 13
-unfolding child wordAt step finish scan
+unfolding kindIn kindBy rowOf next step finish scan
 unfinished = reading (116 ∷ 104 ∷ 101 ∷ 110 ∷ 44 ∷ 50 ∷ 44 ∷ 101 ∷ 118 ∷ 44 ∷ 49 ∷ 44 ∷ 48 ∷ [])
 
 -- (nothing)
 empty : Misread ([]) 0
-unfolding child wordAt step finish scan
+unfolding kindIn kindBy rowOf next step finish scan
 empty = reading ([])
 
 -- then,2,ev,7,0,ev,9,0
 whole :
     outcomeOf (116 ∷ 104 ∷ 101 ∷ 110 ∷ 44 ∷ 50 ∷ 44 ∷ 101 ∷ 118 ∷ 44 ∷ 55 ∷ 44 ∷ 48 ∷ 44 ∷ 101 ∷ 118 ∷ 44 ∷ 57 ∷ 44 ∷ 48 ∷ [])
     ≡ Accepts (Node (Then 2) (Cons (Node (Ev 7 0) Nil) (Cons (Node (Ev 9 0) Nil) Nil)))
-unfolding symbol child wordAt step finish scan build outcomeOf
+unfolding kindIn kindBy rowOf next step finish scan build outcomeOf
 whole = refl

@@ -7,19 +7,21 @@ use mathlib.Core.List.{List, [], _∷_, _++_, map, append-assoc}
 use lib.Dec.{leb, ltb, eqb}
 use lib.ListN.{length, getD, drop, set, replicate, length-append, drop-of-length-le}
 use lib.Seq.{drop-cons}
-use borrow.Author.Tests.{ltb-false, lt-ltb}
+use borrow.Author.Tests.{leb-true, ltb-false, lt-ltb}
 use native.Mathlib.Numerals.{add-one}
 use native.Mathlib.Omega.{arith}
-use Rattle.pattern.specs.Pattern.{Symbol}
+use Rattle.pattern.specs.Kinds.{Symbol, kindOf, firstOf, secondOf, thirdOf, symbol, fieldCount, low, arity}
 use Rattle.pattern.specs.declared.State.{State}
 use Rattle.pattern.specs.declared.State.the-variants.{Letters, Field, Digits}
 use Rattle.pattern.specs.declared.Scanned.{Scanned}
 use Rattle.pattern.specs.declared.Step.{Step}
 use Rattle.pattern.specs.declared.Step.the-variants.{Dead, Within, Closed}
-use Rattle.pattern.specs.Automaton.{fieldCount, low, arity, firstField, secondField, step, Bounded, final, endOf, Scan, Stop, Whole, later, after, last, finish, go, scan, putAt, Columns, Tells}
-use Rattle.pattern.specs.Rows.{kindOf, firstOf, secondOf, padded, symbol}
+use Rattle.pattern.specs.Automaton.{firstField, secondField, thirdField, step, Scan, Stop, Whole, later, after, last, finish, go, scan}
+use Rattle.pattern.specs.Rows.{padded}
+use Rattle.pattern.specs.inner.Scanner.{Bounded, final, endOf, putAt, Columns, Tells}
 use Rattle.basics.proofs.Basics.{cases}
-use Rattle.pattern.proofs.Fields.{Named, named-last, field-small, earlier-small, rank-small}
+use Rattle.pattern.proofs.KindLaws.{few-fields, range-sound, word-short, rank-small}
+use Rattle.pattern.proofs.Fields.{Named, made-last, first-small}
 use Rattle.pattern.proofs.Scanning.{Held, need, After, Went, Shut, step-after}
 
 -- ── What is left to scan, and what has been ──
@@ -76,42 +78,43 @@ set-column f xs h l n x e p q g =
     let m : n ≡ length (map f xs) = omega (arith, map-length f xs) in
     ap (λ (c : Bool). cond c (set l n x) l) (lt-ltb n 32 p) ∙ (ap₂ (λ (t : List ℕ) (m : ℕ). set t m x) g m ∙ (set-padded (map f xs) x (omega arith) ∙ ap padded (ap (λ (y : ℕ). map f xs ++ (y ∷ [])) (sym q) ∙ sym (map-snoc f xs h))))
 
--- and so do the three
-push : (xs : List Symbol) (ks as′ cs : List ℕ) (n k a c : ℕ) → n ≡ length xs → Named k a c → (length xs ≤ 32 → Columns xs ks as′ cs)
-    → length (xs ++ (symbol k a c ∷ [])) ≤ 32 → Columns (xs ++ (symbol k a c ∷ [])) (putAt ks n k) (putAt as′ n a) (putAt cs n c)
-push xs ks as′ cs n k a c e m f l =
-    let s : n < 32 = omega (arith, length-append xs (symbol k a c ∷ [])) in
+-- and so do the four
+push : (xs : List Symbol) (ks as′ cs ds : List ℕ) (n k a c d : ℕ) → n ≡ length xs → Named k a c d → (length xs ≤ 32 → Columns xs ks as′ cs ds)
+    → length (xs ++ (symbol k a c d ∷ [])) ≤ 32 → Columns (xs ++ (symbol k a c d ∷ [])) (putAt ks n k) (putAt as′ n a) (putAt cs n c) (putAt ds n d)
+push xs ks as′ cs ds n k a c d e m f l =
+    let s : n < 32 = omega (arith, length-append xs (symbol k a c d ∷ [])) in
     let g = f (omega arith) in
     record {
-      kinds = set-column kindOf xs (symbol k a c) ks n k e s (m .kind) (g .kinds);
-      firsts = set-column firstOf xs (symbol k a c) as′ n a e s (m .one) (g .firsts);
-      seconds = set-column secondOf xs (symbol k a c) cs n c e s (m .two) (g .seconds);
+      kinds = set-column kindOf xs (symbol k a c d) ks n k e s (m .kind) (g .kinds);
+      firsts = set-column firstOf xs (symbol k a c d) as′ n a e s (m .one) (g .firsts);
+      seconds = set-column secondOf xs (symbol k a c d) cs n c e s (m .two) (g .seconds);
+      thirds = set-column thirdOf xs (symbol k a c d) ds n d e s (m .three) (g .thirds);
     }
 
 -- ── The invariant ──
 
 -- i bytes are read: their symbols are in the columns, and the state scans the rest
-pub record Scanning (text ks xs ys : List ℕ) (count : ℕ) (s : State) (i : ℕ) : Type 0 where
+pub record Scanning (text ks xs ys zs : List ℕ) (count : ℕ) (s : State) (i : ℕ) : Type 0 where
   pub done : List Symbol
   pub within : i ≤ length text
   pub few : count ≤ i
   pub held : Held s
   pub needs : need s ≤ 1 + 31 * i
-  pub rest : scan text (Letters 0 1) ≡ resume i done (scan (drop i text) s)
+  pub rest : scan text (Letters 0 0 1) ≡ resume i done (scan (drop i text) s)
   pub counted : count ≡ length done
-  pub columns : length done ≤ 32 → Columns done ks xs ys
+  pub columns : length done ≤ 32 → Columns done ks xs ys zs
 
 -- at the start
-pub begin : (text : List ℕ) → Scanning text (replicate 32 0) (replicate 32 0) (replicate 32 0) 0 (Letters 0 1) 0
+pub begin : (text : List ℕ) → Scanning text (replicate 32 0) (replicate 32 0) (replicate 32 0) (replicate 32 0) 0 (Letters 0 0 1) 0
 begin text = record {
   done = [];
   within = omega arith;
   few = omega arith;
-  held = (omega arith, omega arith);
+  held = (omega arith, omega arith, omega arith);
   needs = omega arith;
-  rest = same (scan text (Letters 0 1));
+  rest = same (scan text (Letters 0 0 1));
   counted = refl;
-  columns = λ h. record { kinds = refl; firsts = refl; seconds = refl };
+  columns = λ h. record { kinds = refl; firsts = refl; seconds = refl; thirds = refl };
 }
   where
     same : (r : Scan) → r ≡ resume 0 [] r
@@ -119,28 +122,28 @@ begin text = record {
     same (Whole hs) = refl
 
 -- the numbers of the state stay small
-pub bounded : (text ks xs ys : List ℕ) (count : ℕ) (s : State) (i : ℕ) → length text ≤ 1024 → Scanning text ks xs ys count s i → Bounded 1000000 s
-bounded text ks xs ys count s i l v = go s (v .held) (omega (arith, v .needs, v .within))
+pub bounded : (text ks xs ys zs : List ℕ) (count : ℕ) (s : State) (i : ℕ) → length text ≤ 1024 → Scanning text ks xs ys zs count s i → Bounded 1000000 s
+bounded text ks xs ys zs count s i l v = go s (v .held) (omega (arith, v .needs, v .within))
   where
     go : (s : State) → Held s → need s ≤ 40000 → Bounded 1000000 s
-    go (Letters t n) h m = (h .1, omega arith)
-    go (Field k j a n) h m = (h .1, omega arith)
-    go (Digits k j a v n) h m =
+    go (Letters r m n) h y = (h .2, omega arith, omega (arith, h .1, word-short r), h .0)
+    go (Field k j a c n) h y = (h .1, omega arith, omega (arith, h .0 .field, few-fields k))
+    go (Digits k j a c v n) h y =
         let f = h .0 in
-        let b = field-small k (f .kind) j (f .field) in
-        (h .1, omega arith, omega (arith, h .2 .below), earlier-small a k (f .kind) j (f .field) (f .earlier), b .0)
+        let b : v ≤ 65535 = omega (arith, h .2 .below, range-sound k j) in
+        (h .1, omega arith, b, first-small k j a c v (f .earlier) b, omega (arith, f .field, few-fields k))
 
-module _ (text ks xs ys : List ℕ) (count : ℕ) (s : State) (i b : ℕ) (v : Scanning text ks xs ys count s i) (l : i < length text) (e : b ≡ getD text i 0) where
-  on-step : (t : Step) → t ≡ step s b → scan text (Letters 0 1) ≡ resume i (v .done) (go (scan (drop (i + 1) text)) t)
+module _ (text ks xs ys zs : List ℕ) (count : ℕ) (s : State) (i b : ℕ) (v : Scanning text ks xs ys zs count s i) (l : i < length text) (e : b ≡ getD text i 0) where
+  on-step : (t : Step) → t ≡ step s b → scan text (Letters 0 0 1) ≡ resume i (v .done) (go (scan (drop (i + 1) text)) t)
   on-step t q = v .rest ∙ ap (resume i (v .done)) (scan-drop text i s l ∙ ap (go (scan (drop (i + 1) text))) (ap (step s) (sym e) ∙ sym q))
 
   after-step : (t : Step) → t ≡ step s b → After s b t
   after-step t q = subst (After s b) (sym q) (step-after s b (v .held))
 
-  pub turn-dead : (t : Step) → t ≡ step s b → t ≡ Dead → scan text (Letters 0 1) ≡ Stop i
+  pub turn-dead : (t : Step) → t ≡ step s b → t ≡ Dead → scan text (Letters 0 0 1) ≡ Stop i
   turn-dead t q d = on-step t q ∙ (ap (λ (x : Step). resume i (v .done) (go (scan (drop (i + 1) text)) x)) d ∙ ap Stop (omega arith))
 
-  pub turn-within : (t : Step) (s′ : State) → t ≡ step s b → t ≡ Within s′ → Scanning text ks xs ys count s′ (i + 1)
+  pub turn-within : (t : Step) (s′ : State) → t ≡ step s b → t ≡ Within s′ → Scanning text ks xs ys zs count s′ (i + 1)
   turn-within t s′ q d =
       let g : Went s b s′ = subst (After s b) d (after-step t q) in
       record {
@@ -154,68 +157,68 @@ module _ (text ks xs ys : List ℕ) (count : ℕ) (s : State) (i b : ℕ) (v : S
         columns = v .columns;
       }
 
-  pub turn-closed : (t : Step) (k a c : ℕ) (s′ : State) → t ≡ step s b → t ≡ Closed k a c s′ → Scanning text (putAt ks count k) (putAt xs count a) (putAt ys count c) (count + 1) s′ (i + 1)
-  turn-closed t k a c s′ q d =
-      let g : Shut s b (symbol k a c) s′ × Named k a c = subst (After s b) d (after-step t q) in
+  pub turn-closed : (t : Step) (k a c d : ℕ) (s′ : State) → t ≡ step s b → t ≡ Closed k a c d s′ → Scanning text (putAt ks count k) (putAt xs count a) (putAt ys count c) (putAt zs count d) (count + 1) s′ (i + 1)
+  turn-closed t k a c d s′ q z =
+      let g : Shut s b (symbol k a c d) s′ × Named k a c d = subst (After s b) z (after-step t q) in
       record {
-        done = v .done ++ (symbol k a c ∷ []);
+        done = v .done ++ (symbol k a c d ∷ []);
         within = omega arith;
         few = omega (arith, v .few);
         held = g .0 .held;
-        needs = omega (arith, g .0 .needs, v .needs, rank-small (symbol k a c) (g .0 .ranged));
-        rest = on-step t q ∙ (ap (λ (x : Step). resume i (v .done) (go (scan (drop (i + 1) text)) x)) d ∙ resume-after i (v .done) (symbol k a c) (scan (drop (i + 1) text) s′));
-        counted = omega (arith, v .counted, length-append (v .done) (symbol k a c ∷ []));
-        columns = push (v .done) ks xs ys count k a c (v .counted) (g .1) (v .columns);
+        needs = omega (arith, g .0 .needs, v .needs, rank-small (symbol k a c d) (g .0 .ranged));
+        rest = on-step t q ∙ (ap (λ (x : Step). resume i (v .done) (go (scan (drop (i + 1) text)) x)) z ∙ resume-after i (v .done) (symbol k a c d) (scan (drop (i + 1) text) s′));
+        counted = omega (arith, v .counted, length-append (v .done) (symbol k a c d ∷ []));
+        columns = push (v .done) ks xs ys zs count k a c d (v .counted) (g .1) (v .columns);
       }
 
 -- ── The end of the text ──
 
 -- the text is read whole, and its symbols are in the columns
-pub record Ended (text ks xs ys : List ℕ) (count : ℕ) : Type 0 where
+pub record Ended (text ks xs ys zs : List ℕ) (count : ℕ) : Type 0 where
   pub symbols : List Symbol
-  pub whole : scan text (Letters 0 1) ≡ Whole symbols
+  pub whole : scan text (Letters 0 0 1) ≡ Whole symbols
   pub counted : count ≡ length symbols
-  pub columns : length symbols ≤ 32 → Columns symbols ks xs ys
+  pub columns : length symbols ≤ 32 → Columns symbols ks xs ys zs
 
 -- what the code makes of the end of the text is what the scan does
 abbrev Ends : Scan → Step → Type 0
 Ends f Dead = f ≡ Stop 0
 Ends f (Within s) = f ≡ Stop 0
-Ends f (Closed k a c s) = (f ≡ Whole (symbol k a c ∷ [])) × Named k a c
+Ends f (Closed k a c d s) = (f ≡ Whole (symbol k a c d ∷ [])) × Named k a c d
 
 -- in every state
 ends : (s : State) → Held s → Ends (finish s) (endOf s)
 unfolding finish endOf
-ends (Letters t n) h = refl
-ends (Field k j a n) h = refl
-ends (Digits k j a v n) h =
-    cases (leb (low k j) v) (λ c. Ends (cond c (cond (ltb (j + 1) (fieldCount k)) (Stop 0) (last k (firstField j a v) (secondField j v) n)) (Stop 0)) (cond c (cond (ltb (j + 1) (fieldCount k)) Dead (final k (firstField j a v) (secondField j v) n)) Dead))
-    (λ e. cases (ltb (j + 1) (fieldCount k)) (λ c. (c ≡ false → fieldCount k ≤ j + 1) → Ends (cond c (Stop 0) (last k (firstField j a v) (secondField j v) n)) (cond c Dead (final k (firstField j a v) (secondField j v) n)))
+ends (Letters r m n) h = refl
+ends (Field k j a c n) h = refl
+ends (Digits k j a c v n) h =
+    cases (leb (low k j) v) (λ t. (t ≡ true → low k j ≤ v) → Ends (cond t (cond (ltb (j + 1) (fieldCount k)) (Stop 0) (last k (firstField j a v) (secondField j c v) (thirdField j v) n)) (Stop 0)) (cond t (cond (ltb (j + 1) (fieldCount k)) Dead (final k (firstField j a v) (secondField j c v) (thirdField j v) n)) Dead))
+    (λ e y. cases (ltb (j + 1) (fieldCount k)) (λ t. (t ≡ false → fieldCount k ≤ j + 1) → Ends (cond t (Stop 0) (last k (firstField j a v) (secondField j c v) (thirdField j v) n)) (cond t Dead (final k (firstField j a v) (secondField j c v) (thirdField j v) n)))
     (λ g z. refl)
-    (λ g z. cases (eqb (n + arity k (firstField j a v)) 1) (λ c. Ends (cond c (Whole (symbol k (firstField j a v) (secondField j v) ∷ [])) (Stop 0)) (cond c (Closed k (firstField j a v) (secondField j v) (Letters 0 0)) Dead))
-    (λ q. (refl, named-last a v k (h .0 .kind) j (h .0 .field) (z refl))) (λ q. refl))
+    (λ g z. cases (eqb (n + arity k (firstField j a v)) 1) (λ t. Ends (cond t (Whole (symbol k (firstField j a v) (secondField j c v) (thirdField j v) ∷ [])) (Stop 0)) (cond t (Closed k (firstField j a v) (secondField j c v) (thirdField j v) (Letters 0 0 0)) Dead))
+    (λ q. (refl, made-last k (h .0 .sound) a c v j (omega (arith, z refl, h .0 .field)) (h .0 .earlier) (y refl, h .2 .below) .named)) (λ q. refl))
     (ltb-false (j + 1) (fieldCount k)))
-    (λ e. refl)
+    (λ e y. refl) (leb-true (low k j) v)
 
-module _ (text ks xs ys : List ℕ) (count : ℕ) (s : State) (i : ℕ) (v : Scanning text ks xs ys count s i) (l : length text ≤ i) where
-  at-end : scan text (Letters 0 1) ≡ resume i (v .done) (finish s)
+module _ (text ks xs ys zs : List ℕ) (count : ℕ) (s : State) (i : ℕ) (v : Scanning text ks xs ys zs count s i) (l : length text ≤ i) where
+  at-end : scan text (Letters 0 0 1) ≡ resume i (v .done) (finish s)
   unfolding scan
   at-end = v .rest ∙ ap (λ (w : List ℕ). resume i (v .done) (scan w s)) (drop-of-length-le text {i = i} l)
 
-  pub end-dead : (t : Step) → t ≡ endOf s → t ≡ Dead → scan text (Letters 0 1) ≡ Stop i
+  pub end-dead : (t : Step) → t ≡ endOf s → t ≡ Dead → scan text (Letters 0 0 1) ≡ Stop i
   end-dead t q d = let g : finish s ≡ Stop 0 = subst (Ends (finish s)) (sym q ∙ d) (ends s (v .held)) in at-end ∙ (ap (resume i (v .done)) g ∙ ap Stop (omega arith))
 
-  pub end-within : (t : Step) (s′ : State) → t ≡ endOf s → t ≡ Within s′ → scan text (Letters 0 1) ≡ Stop i
+  pub end-within : (t : Step) (s′ : State) → t ≡ endOf s → t ≡ Within s′ → scan text (Letters 0 0 1) ≡ Stop i
   end-within t s′ q d = let g : finish s ≡ Stop 0 = subst (Ends (finish s)) (sym q ∙ d) (ends s (v .held)) in at-end ∙ (ap (resume i (v .done)) g ∙ ap Stop (omega arith))
 
-  pub end-closed : (t : Step) (k a c : ℕ) (s′ : State) → t ≡ endOf s → t ≡ Closed k a c s′ → Ended text (putAt ks count k) (putAt xs count a) (putAt ys count c) (count + 1)
-  end-closed t k a c s′ q d =
-      let g : (finish s ≡ Whole (symbol k a c ∷ [])) × Named k a c = subst (Ends (finish s)) (sym q ∙ d) (ends s (v .held)) in
+  pub end-closed : (t : Step) (k a c d : ℕ) (s′ : State) → t ≡ endOf s → t ≡ Closed k a c d s′ → Ended text (putAt ks count k) (putAt xs count a) (putAt ys count c) (putAt zs count d) (count + 1)
+  end-closed t k a c d s′ q z =
+      let g : (finish s ≡ Whole (symbol k a c d ∷ [])) × Named k a c d = subst (Ends (finish s)) (sym q ∙ z) (ends s (v .held)) in
       record {
-        symbols = v .done ++ (symbol k a c ∷ []);
+        symbols = v .done ++ (symbol k a c d ∷ []);
         whole = at-end ∙ ap (resume i (v .done)) (g .0);
-        counted = omega (arith, v .counted, length-append (v .done) (symbol k a c ∷ []));
-        columns = push (v .done) ks xs ys count k a c (v .counted) (g .1) (v .columns);
+        counted = omega (arith, v .counted, length-append (v .done) (symbol k a c d ∷ []));
+        columns = push (v .done) ks xs ys zs count k a c d (v .counted) (g .1) (v .columns);
       }
 
 -- ── What the answers tell ──
@@ -225,11 +228,12 @@ pub tells-stop : (x : Scan) (i : ℕ) (r : Scanned) → x ≡ Stop i → (r .who
 tells-stop x i r e h = subst (λ (y : Scan). Tells y r) (sym e) h
 
 -- the columns by their equations
-pub scanning-at : (text ks xs ys ks′ xs′ ys′ : List ℕ) (count : ℕ) (s : State) (i : ℕ) → ks′ ≡ ks → xs′ ≡ xs → ys′ ≡ ys → Scanning text ks xs ys count s i → Scanning text ks′ xs′ ys′ count s i
-scanning-at text ks xs ys ks′ xs′ ys′ count s i p q r v = subst (λ (z : List ℕ). Scanning text z xs′ ys′ count s i) (sym p) (subst (λ (z : List ℕ). Scanning text ks z ys′ count s i) (sym q) (subst (λ (z : List ℕ). Scanning text ks xs z count s i) (sym r) v))
+pub scanning-at : (text ks xs ys zs ks′ xs′ ys′ zs′ : List ℕ) (count : ℕ) (s : State) (i : ℕ) → ks′ ≡ ks → xs′ ≡ xs → ys′ ≡ ys → zs′ ≡ zs → Scanning text ks xs ys zs count s i → Scanning text ks′ xs′ ys′ zs′ count s i
+scanning-at text ks xs ys zs ks′ xs′ ys′ zs′ count s i p q r t v = rw (p, q, r, t) v
 
 -- a whole text is told
-pub tells-whole : (text ks xs ys ks′ xs′ ys′ : List ℕ) (n : ℕ) → ks′ ≡ ks → xs′ ≡ xs → ys′ ≡ ys → Ended text ks xs ys n → Tells (scan text (Letters 0 1)) (record { whole = true; place = 0; count = n; kind = ks′; first = xs′; second = ys′ })
-tells-whole text ks xs ys ks′ xs′ ys′ n p q r v =
-    subst (λ (y : Scan). Tells y (record { whole = true; place = 0; count = n; kind = ks′; first = xs′; second = ys′ })) (sym (v .whole))
-    (refl, v .counted, λ h. let g = v .columns h in record { kinds = p ∙ g .kinds; firsts = q ∙ g .firsts; seconds = r ∙ g .seconds })
+pub tells-whole : (text ks xs ys zs ks′ xs′ ys′ zs′ : List ℕ) (n : ℕ) → ks′ ≡ ks → xs′ ≡ xs → ys′ ≡ ys → zs′ ≡ zs → Ended text ks xs ys zs n
+    → Tells (scan text (Letters 0 0 1)) (record { whole = true; place = 0; count = n; kind = ks′; first = xs′; second = ys′; third = zs′ })
+tells-whole text ks xs ys zs ks′ xs′ ys′ zs′ n p q r t v =
+    subst (λ (y : Scan). Tells y (record { whole = true; place = 0; count = n; kind = ks′; first = xs′; second = ys′; third = zs′ })) (sym (v .whole))
+    (refl, v .counted, λ h. let g = v .columns h in record { kinds = p ∙ g .kinds; firsts = q ∙ g .firsts; seconds = r ∙ g .seconds; thirds = t ∙ g .thirds })

@@ -9,15 +9,15 @@ use lib.ListN.{length, take}
 use borrow.Author.Tests.{eqb-true, leb-true, ltb-false}
 use native.Mathlib.Omega.{arith}
 use Rattle.basics.specs.Decimal.{decimal}
-use Rattle.pattern.specs.Pattern.{Symbol, spellSymbol}
+use Rattle.pattern.specs.Kinds.{Symbol, symbol, fieldCount, low, arity}
+use Rattle.pattern.specs.Pattern.{spellSymbol}
 use Rattle.pattern.specs.declared.State.{State}
 use Rattle.pattern.specs.declared.State.the-variants.{Letters, Field, Digits}
 use Rattle.pattern.specs.declared.Step.{Step}
 use Rattle.pattern.specs.declared.Step.the-variants.{Dead, Within, Closed}
-use Rattle.pattern.specs.Automaton.{fieldCount, low, arity, firstField, secondField, step, Scan, Stop, Whole, later, after, last, finish, go, scan}
-use Rattle.pattern.specs.Rows.{symbol}
+use Rattle.pattern.specs.Automaton.{firstField, secondField, thirdField, step, Scan, Stop, Whole, later, after, last, finish, go, scan}
 use Rattle.basics.proofs.Basics.{cases}
-use Rattle.pattern.proofs.Fields.{rank-arity, lead, spelt-last, ranged-last}
+use Rattle.pattern.proofs.Fields.{rank-arity, lead, spelt-last, made-last}
 use Rattle.pattern.proofs.Scanning.{afters, joined, Counts, AllRanged, need, pending, InField, Held, Went, Shut, After, step-after, Completes, completes}
 
 -- ── What a scan says ──
@@ -87,40 +87,41 @@ after-means s b h s′ w n g n′ (Whole hs) m = record {
 
 -- a tree is to come
 pub held-need : (s : State) → Held s → 1 ≤ need s
-held-need (Letters t n) h = h .1
-held-need (Field k j a n) h = h .1
-held-need (Digits k j a v n) h = h .1
+held-need (Letters r m n) h = h .2
+held-need (Field k j a c n) h = h .1
+held-need (Digits k j a c v n) h = h .1
 
 -- a step
 go-means : (s : State) (b : ℕ) (w : List ℕ) → Held s → ((s′ : State) → Held s′ → Means s′ w (scan w s′)) → (t : Step) → After s b t → Means s (b ∷ w) (go (scan w) t)
 go-means s b w h f Dead a = stop-here s (b ∷ w) h
 go-means s b w h f (Within s′) a = later-means s b s′ w a (scan w s′) (f s′ (a .held))
-go-means s b w h f (Closed k x y s′) a = after-means s b (symbol k x y) s′ w (held-need s h) (a .0) (held-need s′ (a .0 .held)) (scan w s′) (f s′ (a .0 .held))
+go-means s b w h f (Closed k x y z s′) a = after-means s b (symbol k x y z) s′ w (held-need s h) (a .0) (held-need s′ (a .0 .held)) (scan w s′) (f s′ (a .0 .held))
 
 -- a symbol at the end of the text
-last-means : (k j a v n : ℕ) → Held (Digits k j a v n) → low k j ≤ v → fieldCount k ≤ j + 1 → Means (Digits k j a v n) [] (last k (firstField j a v) (secondField j v) n)
-last-means k j a v n h r l =
-    cases (eqb (n + arity k (firstField j a v)) 1) (λ c. Means (Digits k j a v n) [] (cond c (Whole (symbol k (firstField j a v) (secondField j v) ∷ [])) (Stop 0)))
-    (λ c. record {
-      spelt = append-nil (lead k j a ++ decimal v) ∙ (spelt-last a v k (f .kind) j (f .field) l ∙ sym (append-nil (spellSymbol (symbol k (firstField j a v) (secondField j v)))));
-      counts = (h .1, omega (arith, rank-arity (firstField j a v) (secondField j v) k (f .kind), eqb-true (n + arity k (firstField j a v)) 1 c));
-      ranged = (ranged-last a v k (f .kind) j (f .field) l (f .earlier) (r, h .2 .below), tt);
-    }) (λ c. stop-here (Digits k j a v n) [] h)
+last-means : (k j a c v n : ℕ) → Held (Digits k j a c v n) → low k j ≤ v → fieldCount k ≡ j + 1 → Means (Digits k j a c v n) [] (last k (firstField j a v) (secondField j c v) (thirdField j v) n)
+last-means k j a c v n h r l =
+    cases (eqb (n + arity k (firstField j a v)) 1) (λ t. Means (Digits k j a c v n) [] (cond t (Whole (symbol k (firstField j a v) (secondField j c v) (thirdField j v) ∷ [])) (Stop 0)))
+    (λ t. let m = made-last k (f .sound) a c v j l (f .earlier) (r, h .2 .below) in
+    record {
+      spelt = append-nil (lead k j a c ++ decimal v) ∙ (spelt-last k (f .sound) a c v j l ∙ sym (append-nil (spellSymbol (symbol k (firstField j a v) (secondField j c v) (thirdField j v)))));
+      counts = (h .1, omega (arith, rank-arity k (f .sound) (firstField j a v) (secondField j c v) (thirdField j v) (m .named), eqb-true (n + arity k (firstField j a v)) 1 t));
+      ranged = (m .ranged, tt);
+    }) (λ t. stop-here (Digits k j a c v n) [] h)
   where
-    f : InField k j a
+    f : InField k j a c
     f = h .0
 
 -- the end of the text
 finish-means : (s : State) → Held s → Means s [] (finish s)
 unfolding finish
-finish-means (Letters t n) h = stop-here (Letters t n) [] h
-finish-means (Field k j a n) h = stop-here (Field k j a n) [] h
-finish-means (Digits k j a v n) h =
-    cases (leb (low k j) v) (λ c. Means (Digits k j a v n) [] (cond c (cond (ltb (j + 1) (fieldCount k)) (Stop 0) (last k (firstField j a v) (secondField j v) n)) (Stop 0)))
-    (λ c. cases (ltb (j + 1) (fieldCount k)) (λ d. Means (Digits k j a v n) [] (cond d (Stop 0) (last k (firstField j a v) (secondField j v) n)))
-    (λ d. stop-here (Digits k j a v n) [] h)
-    (λ d. last-means k j a v n h (leb-true (low k j) v c) (ltb-false (j + 1) (fieldCount k) d)))
-    (λ c. stop-here (Digits k j a v n) [] h)
+finish-means (Letters r m n) h = stop-here (Letters r m n) [] h
+finish-means (Field k j a c n) h = stop-here (Field k j a c n) [] h
+finish-means (Digits k j a c v n) h =
+    cases (leb (low k j) v) (λ t. Means (Digits k j a c v n) [] (cond t (cond (ltb (j + 1) (fieldCount k)) (Stop 0) (last k (firstField j a v) (secondField j c v) (thirdField j v) n)) (Stop 0)))
+    (λ t. cases (ltb (j + 1) (fieldCount k)) (λ d. Means (Digits k j a c v n) [] (cond d (Stop 0) (last k (firstField j a v) (secondField j c v) (thirdField j v) n)))
+    (λ d. stop-here (Digits k j a c v n) [] h)
+    (λ d. last-means k j a c v n h (leb-true (low k j) v t) (omega (arith, ltb-false (j + 1) (fieldCount k) d, h .0 .field))))
+    (λ t. stop-here (Digits k j a c v n) [] h)
 
 -- a scan says what holds of the text
 pub scan-means : (w : List ℕ) (s : State) → Held s → Means s w (scan w s)

@@ -59,9 +59,9 @@ scan-told s (Whole hs) l m =
 pub told : (s : List ℕ) → Told s (outcomeOf s)
 unfolding outcomeOf
 told s =
-    cases (ltb 1024 (length s)) (λ b. Told s (cond b (Refuses 2 0) (ofScan (scan s (Letters 0 1)))))
+    cases (ltb 1024 (length s)) (λ b. Told s (cond b (Refuses 2 0) (ofScan (scan s (Letters 0 0 1)))))
     (λ h. record { says = record { long = ltb-true 1024 (length s) h; empty = refl }; number = refl; place = refl; some = omega arith })
-    (λ h. scan-told s (scan s (Letters 0 1)) (ltb-false 1024 (length s) h) (reading s))
+    (λ h. scan-told s (scan s (Letters 0 0 1)) (ltb-false 1024 (length s) h) (reading s))
 
 -- the verdict says what the outcome says
 told-says : (s : List ℕ) (o : Outcome) → Told s o → Says s (verdictOf o) (tableOf o)

@@ -5,21 +5,23 @@ use mathlib.Core.Path.{_≡_, refl, sym, ap, _∙_}
 use mathlib.Core.Bool.{true, not, cond, _&&_}
 use mathlib.Core.List.{List, [], _∷_, _++_, append-assoc}
 use lib.Dec.{leb, ltb, eqb}
+use lib.ListN.{length}
 use borrow.Author.Tests.{eqb-true, eqb-false, leb-true, ltb-true, ltb-false, not-true}
 use native.Mathlib.Omega.{arith}
 use Rattle.basics.specs.Decimal.{decimal}
-use Rattle.pattern.specs.Pattern.{Symbol, Ev, spellSymbol, Ranged, InRange, rank}
+use Rattle.pattern.specs.Kinds.{kinds, kindIn, kindBy, rowOf, Symbol, Ev, rank, Ranged, InRange, symbol, fieldCount, low, high, arity}
+use Rattle.pattern.specs.Pattern.{spellSymbol}
 use Rattle.pattern.specs.declared.State.{State}
 use Rattle.pattern.specs.declared.State.the-variants.{Letters, Field, Digits}
 use Rattle.pattern.specs.declared.Step.{Step}
 use Rattle.pattern.specs.declared.Step.the-variants.{Dead, Within, Closed}
-use Rattle.pattern.specs.Automaton.{fieldCount, low, high, arity, firstField, secondField, child, wordAt, live, digit, number, shut, wordEnd, numberEnd, letter, step}
-use Rattle.pattern.specs.Rows.{symbol}
+use Rattle.pattern.specs.Automaton.{firstField, secondField, thirdField, next, live, digit, number, shut, wordEnd, numberEnd, letter, step}
 use Rattle.basics.proofs.Basics.{cases, and-true}
 use Rattle.basics.proofs.Decimals.{decimal-small, decimal-large}
 use Rattle.pattern.proofs.Numbers.{Starts, live-starts, starts-completed}
-use Rattle.pattern.proofs.Words.{path, onward, path-onward, Kind, wayAt, way-kind, child-grown, word-ended}
-use Rattle.pattern.proofs.Fields.{rank-arity, lead, spelt-last, lead-next, Earlier, ranged-last, low-small, bare, earlier-next, Named, named-last, goes, word-goes}
+use Rattle.pattern.proofs.KindLaws.{range-sound, wordOf, Sound, fair}
+use Rattle.pattern.proofs.Words.{path, onward, path-onward, letter-grown, word-ended}
+use Rattle.pattern.proofs.Fields.{rank-arity, Named, Made, bare, bare-spelt, lead, spelt-last, lead-next, Earlier, made-last, earlier-next, goes, word-goes}
 
 -- ── Lists of symbols ──
 
@@ -47,27 +49,27 @@ AllRanged (h ∷ hs) = Ranged h × AllRanged hs
 
 -- the trees still to come
 abbrev pub need : State → ℕ
-need (Letters t n) = n
-need (Field k j a n) = n
-need (Digits k j a v n) = n
+need (Letters r m n) = n
+need (Field k j a c n) = n
+need (Digits k j a c v n) = n
 
 -- what has been read of the present symbol
 abbrev pub pending : State → List ℕ
-pending (Letters t n) = path t
-pending (Field k j a n) = lead k j a
-pending (Digits k j a v n) = lead k j a ++ decimal v
+pending (Letters r m n) = path r m
+pending (Field k j a c n) = lead k j a c
+pending (Digits k j a c v n) = lead k j a c ++ decimal v
 
--- a field of a kind of symbols, with the number before it in range
-pub record InField (k j a : ℕ) : Type 0 where
-  pub kind : Kind k
+-- a field of a kind of symbols, with the numbers before it in range
+pub record InField (k j a c : ℕ) : Type 0 where
+  pub sound : Sound k
   pub field : j < fieldCount k
-  pub earlier : Earlier k j a
+  pub earlier : Earlier k j a c
 
 -- what holds of a state
 abbrev pub Held : State → Type 0
-Held (Letters t n) = (t < 24) × (1 ≤ n)
-Held (Field k j a n) = InField k j a × (1 ≤ n)
-Held (Digits k j a v n) = InField k j a × (1 ≤ n) × Starts (low k j) (high k j) v
+Held (Letters r m n) = (r < length kinds) × (m ≤ length (kindIn r .word)) × (1 ≤ n)
+Held (Field k j a c n) = InField k j a c × (1 ≤ n)
+Held (Digits k j a c v n) = InField k j a c × (1 ≤ n) × Starts (low k j) (high k j) v
 
 -- ── A step ──
 
@@ -90,92 +92,95 @@ pub record Shut (s : State) (b : ℕ) (h : Symbol) (s′ : State) : Type 0 where
 abbrev pub After : State → ℕ → Step → Type 0
 After s b Dead = Unit {0}
 After s b (Within s′) = Went s b s′
-After s b (Closed k a c s′) = Shut s b (symbol k a c) s′ × Named k a c
+After s b (Closed k a c d s′) = Shut s b (symbol k a c d) s′ × Named k a c d
 
 -- a comma after a whole symbol
-shut-after : (s : State) (b k a c n : ℕ) → b ≡ 44 → Kind k → 1 ≤ n → n ≡ need s → pending s ≡ spellSymbol (symbol k a c) → Ranged (symbol k a c) → Named k a c → After s b (shut k a c n)
+shut-after : (s : State) (b k a c d n : ℕ) → b ≡ 44 → Sound k → 1 ≤ n → n ≡ need s → pending s ≡ spellSymbol (symbol k a c d) → Made k a c d → After s b (shut k a c d n)
 unfolding path
-shut-after s b k a c n e h p q sp r m =
-    cases (eqb (n + arity k a) 1) (λ t. After s b (cond t Dead (Closed k a c (Letters 0 (n + arity k a - 1))))) (λ t. tt)
+shut-after s b k a c d n e h p q sp m =
+    cases (eqb (n + arity k a) 1) (λ t. After s b (cond t Dead (Closed k a c d (Letters 0 0 (n + arity k a - 1))))) (λ t. tt)
     (λ t. let ne : n + arity k a ≡ 1 → ⊥ = eqb-false (n + arity k a) 1 t in
-    (record { held = (omega arith, omega arith); comma = e; pends = refl; needs = omega (arith, rank-arity a c k h); spelt = sp; ranged = r }, m))
-
--- a letter
-letter-after : (t n b : ℕ) → Held (Letters t n) → After (Letters t n) b (letter (child t b) n)
-letter-after t n b h =
-    cases (eqb (child t b) 0) (λ c. After (Letters t n) b (cond c Dead (Within (Letters (child t b) n)))) (λ c. tt)
-    (λ c. let g = child-grown t b (eqb-false (child t b) 0 c) in record { held = (g .below, h .1); pends = g .grown; needs = refl })
+    (record { held = (omega arith, omega arith, omega arith); comma = e; pends = refl; needs = omega (arith, rank-arity k h a c d (m .named)); spelt = sp; ranged = m .ranged }, m .named))
 
 -- a comma after a word
-word-after : (t n b : ℕ) → Held (Letters t n) → b ≡ 44 → After (Letters t n) b (wordEnd (wordAt t) n)
+word-after : (r m n b k : ℕ) → Sound k → path r m ≡ wordOf k → 1 ≤ n → b ≡ 44 → After (Letters r m n) b (wordEnd k n)
 unfolding lead
-word-after t n b h e =
-    cases (eqb (wordAt t) 0) (λ c. After (Letters t n) b (cond c Dead (cond (eqb (fieldCount (wordAt t)) 0) (shut (wordAt t) 0 0 n) (Within (Field (wordAt t) 0 0 n))))) (λ c. tt)
-    (λ c. let w = word-ended t (h .0) (eqb-false (wordAt t) 0 c) in
-    cases (eqb (fieldCount (wordAt t)) 0) (λ d. After (Letters t n) b (cond d (shut (wordAt t) 0 0 n) (Within (Field (wordAt t) 0 0 n))))
-    (λ d. let s = bare (wordAt t) (w .kind) (eqb-true (fieldCount (wordAt t)) 0 d) in
-    shut-after (Letters t n) b (wordAt t) 0 0 n e (w .kind) (h .1) refl (w .whole ∙ s .spelt) (s .ranged) (s .named))
-    (λ d. let f : fieldCount (wordAt t) ≡ 0 → ⊥ = eqb-false (fieldCount (wordAt t)) 0 d in
+word-after r m n b k s w h e =
+    cases (eqb (fieldCount k) 0) (λ d. After (Letters r m n) b (cond d (shut k 0 0 0 n) (Within (Field k 0 0 0 n))))
+    (λ d. let z = eqb-true (fieldCount k) 0 d in shut-after (Letters r m n) b k 0 0 0 n e s h refl (w ∙ bare-spelt k s z) (bare k s z))
+    (λ d. let f : fieldCount k ≡ 0 → ⊥ = eqb-false (fieldCount k) 0 d in
     record {
-      held = (record { kind = w .kind; field = omega arith; earlier = refl }, h .1);
-      pends = ap (λ (x : List ℕ). x ++ (44 ∷ [])) (sym (w .whole)) ∙ ap (λ (x : ℕ). path t ++ (x ∷ [])) (sym e);
+      held = (record { sound = s; field = omega arith; earlier = λ i l. absurd (omega arith) }, h);
+      pends = ap (λ (x : List ℕ). x ++ (44 ∷ [])) (sym w) ∙ ap (λ (x : ℕ). path r m ++ (x ∷ [])) (sym e);
       needs = refl;
-    }))
+    })
+
+-- a letter, or the comma
+letter-after : (r m n b : ℕ) → Held (Letters r m n) → After (Letters r m n) b (letter (next r m b) m b n)
+letter-after r m n b h =
+    cases (ltb (next r m b) (length kinds)) (λ c. After (Letters r m n) b (cond c (cond (eqb b 44) (wordEnd (kindIn (next r m b) .number) n) (Within (Letters (next r m b) (m + 1) n))) Dead))
+    (λ c. let l = ltb-true (next r m b) (length kinds) c in
+    cases (eqb b 44) (λ d. After (Letters r m n) b (cond d (wordEnd (kindIn (next r m b) .number) n) (Within (Letters (next r m b) (m + 1) n))))
+    (λ d. let e = eqb-true b 44 d in
+    word-after r m n b (kindIn (next r m b) .number) (fair (next r m b) l .sound) (word-ended r m b (h .1) l e) (h .2) e)
+    (λ d. let g = letter-grown r m b (h .1) l (eqb-false b 44 d) in record { held = (l, g .short, h .2); pends = g .grown; needs = refl }))
+    (λ c. tt)
 
 -- a digit is from 48 to 57
 digit-true : (b : ℕ) → digit b ≡ true → (48 ≤ b) × (b ≤ 57)
 digit-true b h = let p = and-true (leb 48 b) (leb b 57) h in (leb-true 48 b (p .0), leb-true b 57 (p .1))
 
 -- the first digit of a number
-field-after : (k j a n b : ℕ) → Held (Field k j a n) → After (Field k j a n) b (cond (digit b) (number k j a (b - 48) n) Dead)
-field-after k j a n b h =
-    cases (digit b) (λ c. After (Field k j a n) b (cond c (number k j a (b - 48) n) Dead))
-    (λ c. let d = digit-true b c in
-    cases (live (low k j) (high k j) (b - 48)) (λ l. After (Field k j a n) b (cond l (Within (Digits k j a (b - 48) n)) Dead))
+field-after : (k j a c n b : ℕ) → Held (Field k j a c n) → After (Field k j a c n) b (cond (digit b) (number k j a c (b - 48) n) Dead)
+field-after k j a c n b h =
+    cases (digit b) (λ t. After (Field k j a c n) b (cond t (number k j a c (b - 48) n) Dead))
+    (λ t. let d = digit-true b t in
+    cases (live (low k j) (high k j) (b - 48)) (λ l. After (Field k j a c n) b (cond l (Within (Digits k j a c (b - 48) n)) Dead))
     (λ l. record {
       held = (h .0, h .1, live-starts (low k j) (high k j) (b - 48) l);
-      pends = ap (λ (x : List ℕ). lead k j a ++ x) (decimal-small (b - 48) (omega arith) ∙ ap (λ (x : ℕ). x ∷ []) (omega arith));
+      pends = ap (λ (x : List ℕ). lead k j a c ++ x) (decimal-small (b - 48) (omega arith) ∙ ap (λ (x : ℕ). x ∷ []) (omega arith));
       needs = refl;
-    }) (λ l. tt)) (λ c. tt)
+    }) (λ l. tt)) (λ t. tt)
 
 -- a further digit
-more-after : (k j a v n b : ℕ) → Held (Digits k j a v n) → After (Digits k j a v n) b (cond (digit b && not (eqb v 0)) (number k j a (10 * v + (b - 48)) n) Dead)
-more-after k j a v n b h =
-    cases (digit b && not (eqb v 0)) (λ c. After (Digits k j a v n) b (cond c (number k j a (10 * v + (b - 48)) n) Dead))
-    (λ c. let q = and-true (digit b) (not (eqb v 0)) c in
+more-after : (k j a c v n b : ℕ) → Held (Digits k j a c v n) → After (Digits k j a c v n) b (cond (digit b && not (eqb v 0)) (number k j a c (10 * v + (b - 48)) n) Dead)
+more-after k j a c v n b h =
+    cases (digit b && not (eqb v 0)) (λ t. After (Digits k j a c v n) b (cond t (number k j a c (10 * v + (b - 48)) n) Dead))
+    (λ t. let q = and-true (digit b) (not (eqb v 0)) t in
     let d = digit-true b (q .0) in
     let nz : v ≡ 0 → ⊥ = eqb-false v 0 (not-true (eqb v 0) (q .1)) in
-    cases (live (low k j) (high k j) (10 * v + (b - 48))) (λ l. After (Digits k j a v n) b (cond l (Within (Digits k j a (10 * v + (b - 48)) n)) Dead))
+    cases (live (low k j) (high k j) (10 * v + (b - 48))) (λ l. After (Digits k j a c v n) b (cond l (Within (Digits k j a c (10 * v + (b - 48)) n)) Dead))
     (λ l. record {
       held = (h .0, h .1, live-starts (low k j) (high k j) (10 * v + (b - 48)) l);
-      pends = ap (λ (x : List ℕ). lead k j a ++ x) (decimal-large v (b - 48) (omega arith) (omega arith) ∙ ap (λ (x : ℕ). decimal v ++ (x ∷ [])) (omega arith)) ∙ sym (append-assoc (lead k j a) (decimal v) (b ∷ []));
+      pends = ap (λ (x : List ℕ). lead k j a c ++ x) (decimal-large v (b - 48) (omega arith) (omega arith) ∙ ap (λ (x : ℕ). decimal v ++ (x ∷ [])) (omega arith)) ∙ sym (append-assoc (lead k j a c) (decimal v) (b ∷ []));
       needs = refl;
-    }) (λ l. tt)) (λ c. tt)
+    }) (λ l. tt)) (λ t. tt)
 
 -- a comma after a number
-end-after : (k j a v n b : ℕ) → Held (Digits k j a v n) → b ≡ 44 → After (Digits k j a v n) b (numberEnd k j a v n)
-end-after k j a v n b h e =
-    cases (leb (low k j) v) (λ c. After (Digits k j a v n) b (cond c (cond (ltb (j + 1) (fieldCount k)) (Within (Field k (j + 1) v n)) (shut k (firstField j a v) (secondField j v) n)) Dead))
-    (λ c. let f = h .0 in
-    let r : InRange (low k j) (high k j) v = (leb-true (low k j) v c, h .2 .below) in
-    cases (ltb (j + 1) (fieldCount k)) (λ d. After (Digits k j a v n) b (cond d (Within (Field k (j + 1) v n)) (shut k (firstField j a v) (secondField j v) n)))
-    (λ d. record {
-      held = (record { kind = f .kind; field = ltb-true (j + 1) (fieldCount k) d; earlier = earlier-next v k (f .kind) j (f .field) (ltb-true (j + 1) (fieldCount k) d) r }, h .1);
-      pends = lead-next a v k (f .kind) j (f .field) (ltb-true (j + 1) (fieldCount k) d) ∙ ap (λ (x : ℕ). (lead k j a ++ decimal v) ++ (x ∷ [])) (sym e);
+end-after : (k j a c v n b : ℕ) → Held (Digits k j a c v n) → b ≡ 44 → After (Digits k j a c v n) b (numberEnd k j a c v n)
+end-after k j a c v n b h e =
+    cases (leb (low k j) v) (λ t. After (Digits k j a c v n) b (cond t (cond (ltb (j + 1) (fieldCount k)) (Within (Field k (j + 1) (firstField j a v) (secondField j c v) n)) (shut k (firstField j a v) (secondField j c v) (thirdField j v) n)) Dead))
+    (λ t. let f = h .0 in
+    let r : InRange (low k j) (high k j) v = (leb-true (low k j) v t, h .2 .below) in
+    cases (ltb (j + 1) (fieldCount k)) (λ d. After (Digits k j a c v n) b (cond d (Within (Field k (j + 1) (firstField j a v) (secondField j c v) n)) (shut k (firstField j a v) (secondField j c v) (thirdField j v) n)))
+    (λ d. let l = ltb-true (j + 1) (fieldCount k) d in
+    record {
+      held = (record { sound = f .sound; field = l; earlier = earlier-next k (f .sound) a c v j l (f .earlier) r }, h .1);
+      pends = lead-next k (f .sound) a c v j l ∙ ap (λ (x : ℕ). (lead k j a c ++ decimal v) ++ (x ∷ [])) (sym e);
       needs = refl;
     })
-    (λ d. let l = ltb-false (j + 1) (fieldCount k) d in
-    shut-after (Digits k j a v n) b k (firstField j a v) (secondField j v) n e (f .kind) (h .1) refl (spelt-last a v k (f .kind) j (f .field) l) (ranged-last a v k (f .kind) j (f .field) l (f .earlier) r) (named-last a v k (f .kind) j (f .field) l)))
-    (λ c. tt)
+    (λ d. let l : fieldCount k ≡ j + 1 = omega (arith, ltb-false (j + 1) (fieldCount k) d, f .field) in
+    shut-after (Digits k j a c v n) b k (firstField j a v) (secondField j c v) (thirdField j v) n e (f .sound) (h .1) refl (spelt-last k (f .sound) a c v j l) (made-last k (f .sound) a c v j l (f .earlier) r)))
+    (λ t. tt)
 
 -- every byte, in every state
 pub step-after : (s : State) (b : ℕ) → Held s → After s b (step s b)
 unfolding step
-step-after (Letters t n) b h = cases (eqb b 44) (λ c. After (Letters t n) b (cond c (wordEnd (wordAt t) n) (letter (child t b) n))) (λ c. word-after t n b h (eqb-true b 44 c)) (λ c. letter-after t n b h)
-step-after (Field k j a n) b h = field-after k j a n b h
-step-after (Digits k j a v n) b h =
-    cases (eqb b 44) (λ c. After (Digits k j a v n) b (cond c (numberEnd k j a v n) (cond (digit b && not (eqb v 0)) (number k j a (10 * v + (b - 48)) n) Dead)))
-    (λ c. end-after k j a v n b h (eqb-true b 44 c)) (λ c. more-after k j a v n b h)
+step-after (Letters r m n) b h = letter-after r m n b h
+step-after (Field k j a c n) b h = field-after k j a c n b h
+step-after (Digits k j a c v n) b h =
+    cases (eqb b 44) (λ t. After (Digits k j a c v n) b (cond t (numberEnd k j a c v n) (cond (digit b && not (eqb v 0)) (number k j a c (10 * v + (b - 48)) n) Dead)))
+    (λ t. end-after k j a c v n b h (eqb-true b 44 t)) (λ t. more-after k j a c v n b h)
 
 -- ── Every state goes on to a pattern ──
 
@@ -186,13 +191,15 @@ leaves (suc n) = Ev 1 0 ∷ leaves n
 
 -- they are as many trees
 leaves-count : (n : ℕ) → Counts n (leaves n)
+unfolding kindBy kindIn rowOf
 leaves-count zero = refl
 leaves-count (suc n) = (omega arith, rw (let e : suc n + 0 - 1 ≡ n = omega arith in e) (leaves-count n))
 
 -- and in range
 leaves-ranged : (n : ℕ) → AllRanged (leaves n)
+unfolding kindBy kindIn rowOf
 leaves-ranged zero = tt
-leaves-ranged (suc n) = (((omega arith, omega arith), (omega arith, omega arith)), leaves-ranged n)
+leaves-ranged (suc n) = (((omega arith, omega arith), ((omega arith, omega arith), tt)), leaves-ranged n)
 
 -- the text x, read from s on, goes on to whole symbols
 pub record Completes (s : State) (x : List ℕ) : Type 0 where
@@ -214,19 +221,17 @@ with-leaves s z h p r e = record {
 
 -- every state goes on to a pattern
 pub completes : (s : State) → Held s → Completes s []
-completes (Letters t n) h =
-    let w = word-goes (wayAt t) (way-kind t (h .0)) in
-    with-leaves (Letters t n) (onward t ++ w .rest) (w .whole) (h .1) (w .ranged)
-    (sym (append-assoc (path t) (onward t) (w .rest)) ∙ (ap (λ (x : List ℕ). x ++ w .rest) (path-onward t) ∙ w .spelt))
-completes (Field k j a n) h =
+completes (Letters r m n) h =
+    let w = word-goes (kindIn r .number) (fair r (h .0) .sound) in
+    with-leaves (Letters r m n) (onward r m ++ w .rest) (w .whole) (h .2) (w .ranged)
+    (sym (append-assoc (path r m) (onward r m) (w .rest)) ∙ (ap (λ (x : List ℕ). x ++ w .rest) (path-onward r m (h .0)) ∙ w .spelt))
+completes (Field k j a c n) h =
     let f = h .0 in
-    let l = low-small k (f .kind) j (f .field) in
-    let g = goes a (low k j) k (f .kind) j (f .field) (f .earlier) (omega arith, l .1) in
-    with-leaves (Field k j a n) (decimal (low k j) ++ g .rest) (g .whole) (h .1) (g .ranged) (g .spelt)
-completes (Digits k j a v n) h =
+    let g = goes k (f .sound) (fieldCount k - (j + 1)) a c (low k j) j (omega (arith, f .field)) (f .earlier) (omega arith, range-sound k j .1) in
+    with-leaves (Field k j a c n) (decimal (low k j) ++ g .rest) (g .whole) (h .1) (g .ranged) (g .spelt)
+completes (Digits k j a c v n) h =
     let f = h .0 in
-    let l = low-small k (f .kind) j (f .field) in
-    let c = starts-completed (low k j) (high k j) v (l .0) (h .2) in
-    let g = goes a (c .number) k (f .kind) j (f .field) (f .earlier) (c .ranged) in
-    with-leaves (Digits k j a v n) (c .rest ++ g .rest) (g .whole) (h .1) (g .ranged)
-    (append-assoc (lead k j a) (decimal v) (c .rest ++ g .rest) ∙ (ap (λ (x : List ℕ). lead k j a ++ x) (sym (append-assoc (decimal v) (c .rest) (g .rest)) ∙ ap (λ (x : List ℕ). x ++ g .rest) (c .spelt)) ∙ g .spelt))
+    let x = starts-completed (low k j) (high k j) v (range-sound k j .0) (h .2) in
+    let g = goes k (f .sound) (fieldCount k - (j + 1)) a c (x .number) j (omega (arith, f .field)) (f .earlier) (x .ranged) in
+    with-leaves (Digits k j a c v n) (x .rest ++ g .rest) (g .whole) (h .1) (g .ranged)
+    (append-assoc (lead k j a c) (decimal v) (x .rest ++ g .rest) ∙ (ap (λ (y : List ℕ). lead k j a c ++ y) (sym (append-assoc (decimal v) (x .rest) (g .rest)) ∙ ap (λ (y : List ℕ). y ++ g .rest) (x .spelt)) ∙ g .spelt))

@@ -5,10 +5,10 @@ use mathlib.Core.Path.{_≡_, refl, sym, ap, ap₂, subst, _∙_}
 use mathlib.Core.List.{List, [], _∷_, _++_, map, append-nil}
 use lib.ListN.{length, getD, drop, set, replicate, length-drop, length-set, List·getD-append, drop-of-length-le}
 use native.Mathlib.Omega.{arith}
-use Rattle.pattern.specs.Pattern.{Symbol, Ev, Fr, Or, And, Row, Then, Less, Max, rank, Pattern, Patterns, Nil, Cons, count, nodes, nodesOf, depth, deepest, preorder, sizes, sizesOf}
-use Rattle.pattern.specs.Automaton.{arity, Encodes, Measured}
-use Rattle.pattern.specs.Rows.{kindOf, firstOf}
+use Rattle.pattern.specs.Kinds.{Symbol, kindOf, firstOf, rank, arity}
+use Rattle.pattern.specs.Pattern.{Pattern, Patterns, Nil, Cons, count, nodes, nodesOf, depth, deepest, preorder, sizes, sizesOf}
 use Rattle.pattern.specs.Reading.{firsts, build}
+use Rattle.pattern.specs.inner.Nodes.{Encodes, Measured}
 use Rattle.pattern.proofs.Scanning.{Counts, AllRanged}
 use Rattle.pattern.proofs.Forests.{depths, depthsOf, first-depth, length-sizes, length-sizes-of, length-depths-of, length-preorder, length-preorders, Next, next, split-sizes, split-depths, deepest-nodes, firsts-short}
 use Rattle.pattern.proofs.Trees.{Built, built, build-preorder, formed-counts, ranged-preorder}
@@ -38,17 +38,6 @@ suffix : (hs : List Symbol) (n v : ℕ) → v ≤ length hs → Counts n hs → 
 suffix hs n zero h c r = record { trees = n; counts = c; ranged = r }
 suffix [] n (suc v) h c r = absurd (omega arith)
 suffix (g ∷ hs) n (suc v) h c r = let s = suffix hs (n + rank g - 1) v (omega arith) (c .1) (r .1) in record { trees = s .trees; counts = s .counts; ranged = s .ranged }
-
--- the number of operands, read off the columns
-arity-rank : (h : Symbol) → arity (kindOf h) (firstOf h) ≡ rank h
-arity-rank (Ev a b) = refl
-arity-rank (Fr a b) = refl
-arity-rank (Or a) = refl
-arity-rank (And a) = refl
-arity-rank (Row a) = refl
-arity-rank (Then a) = refl
-arity-rank Less = refl
-arity-rank (Max a) = refl
 
 -- zeros from a place on
 drop-replicate : (v n : ℕ) → drop {A = ℕ} v (replicate n 0) ≡ replicate (n - v) 0
@@ -113,7 +102,7 @@ module _ (ks xs : List ℕ) (count′ : ℕ) (e : Encodes ks xs count′) where
     head = a .head;
     split = sp;
     seen = 0;
-    left = omega (arith, q ∙ (ap₂ arity k f ∙ arity-rank (a .head)));
+    left = omega (arith, q ∙ ap₂ arity k f);
     enough = omega (arith, b .counted, c .0);
     all = omega (arith, length-preorders (forest (e .tree) v), ap length (b .ordered), len);
     at = omega arith;

@@ -16,7 +16,7 @@ table p = record { count = nodes p; rows = rowsOf p }
 
 -- the table of a refused text
 abbrev pub noTable : Table
-noTable = record { count = 0; rows = replicate 128 0 }
+noTable = record { count = 0; rows = replicate 160 0 }
 
 -- no refusal
 pub record IsAccepted (s : List ℕ) (t : Table) : Type 0 where

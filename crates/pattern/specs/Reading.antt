@@ -6,7 +6,8 @@ use mathlib.Core.Bool.{cond}
 use mathlib.Core.List.{List, [], _∷_}
 use lib.Dec.{ltb, eqb}
 use lib.ListN.{length}
-use Rattle.pattern.specs.Pattern.{Symbol, rank, Pattern, Node, Patterns, Nil, Cons, nodes, depth}
+use Rattle.pattern.specs.Kinds.{Symbol, rank}
+use Rattle.pattern.specs.Pattern.{Pattern, Node, Patterns, Nil, Cons, nodes, depth}
 use Rattle.pattern.specs.Automaton.{Scan, Stop, Whole, scan}
 use Rattle.pattern.specs.Answer.{table, noTable, Says}
 use Rattle.pattern.specs.declared.State.the-variants.{Letters}
@@ -57,7 +58,7 @@ ofScan (Whole hs) = ofTrees (build hs)
 
 -- refusal 2 goes first
 unfoldable pub outcomeOf : List ℕ → Outcome
-outcomeOf s = cond (ltb 1024 (length s)) (Refuses 2 0) (ofScan (scan s (Letters 0 1)))
+outcomeOf s = cond (ltb 1024 (length s)) (Refuses 2 0) (ofScan (scan s (Letters 0 0 1)))
 
 -- ── The answer ──
 

@@ -1,182 +1,156 @@
-// The words of the symbols as a trie, and each kind's numbers: how many, their ranges, and the operands.
+// The kinds of symbols: their words, numbers and operands, read off two tables with a row for each kind.
 ghost use mathlib.Core.Path.{_≡_};
-ghost use Prim.Native.Nat.{_≤_};
-ghost use Rattle.pattern.specs.Automaton.{child, wordAt, fieldCount, low, high, arity, live};
+ghost use Prim.Native.Nat.{_≤_, _<_};
+ghost use Rattle.pattern.specs.Kinds.{kindIn, rowOf, fieldCount, low, high, arity};
+ghost use Rattle.pattern.specs.Automaton.{letterAt, alike, next, live};
+use nodes::AND;
+use nodes::EV;
+use nodes::FR;
+use nodes::LESS;
+use nodes::MAX;
+use nodes::OR;
+use nodes::ROW;
+use nodes::THEN;
 
-// The trie of the words: each node's parent (the root has none),
-const PARENT: [usize; 24] = [
-    24,
-    0,
-    1,
-    0,
-    3,
-    0,
-    5,
-    0,
-    7,
-    8,
-    0,
-    10,
-    11,
-    0,
-    13,
-    14,
-    15,
-    0,
-    17,
-    18,
-    19,
-    0,
-    21,
-    22,
+// The number of kinds.
+pub(crate) const KINDS: usize = 8;
+
+// The words, filled up with commas.
+const WORD: [[u8; 4]; 8] = [
+    [b'e', b'v', b',', b','],
+    [b'f', b'r', b',', b','],
+    [b'o', b'r', b',', b','],
+    [b'a', b'n', b'd', b','],
+    [b'r', b'o', b'w', b','],
+    [b't', b'h', b'e', b'n'],
+    [b'l', b'e', b's', b's'],
+    [b'm', b'a', b'x', b','],
 ];
 
-// the letter that leads to it,
-const LETTER: [usize; 24] = [
-    0,
-    101,
-    118,
-    102,
-    114,
-    111,
-    114,
-    97,
-    110,
-    100,
-    114,
-    111,
-    119,
-    116,
-    104,
-    101,
-    110,
-    108,
-    101,
-    115,
-    115,
-    109,
-    97,
-    120,
+// Number; numbers after the word; operands: 1 where the first number says how many, else 0, and how many then;
+// the least and the greatest value of each number. The last row is of no kind.
+const KIND: [[usize; 10]; 9] = [
+    [EV, 2, 0, 0, 1, 255, 0, 99, 0, 0],
+    [FR, 2, 0, 0, 0, 10, 0, 99, 0, 0],
+    [OR, 1, 1, 0, 2, 31, 0, 0, 0, 0],
+    [AND, 1, 1, 0, 2, 31, 0, 0, 0, 0],
+    [ROW, 1, 1, 0, 2, 31, 0, 0, 0, 0],
+    [THEN, 1, 1, 0, 2, 31, 0, 0, 0, 0],
+    [LESS, 0, 0, 2, 0, 0, 0, 0, 0, 0],
+    [MAX, 1, 0, 1, 1, 65535, 0, 0, 0, 0],
+    [0, 0, 0, 0, 0, 0, 0, 0, 0, 0],
 ];
 
-// and the kind of symbol whose word ends there; 0: none does.
-const WORD: [usize; 24] = [
-    0,
-    0,
-    16,
-    0,
-    17,
-    0,
-    1,
-    0,
-    0,
-    2,
-    0,
-    0,
-    3,
-    0,
-    0,
-    0,
-    4,
-    0,
-    0,
-    0,
-    5,
-    0,
-    0,
-    6,
-];
+// A byte as a number.
+pub(crate) fn wide(b: u8) -> usize
+    ensures { λ r. ⌜ (r ≡ b) × (r ≤ 255) ⌝ }
+{
+    b as usize
+}
 
-// The child of a node of the trie by a letter; 0: there is none.
-pub(crate) fn child(node: usize, b: usize) -> usize
-    ensures { λ r. ⌜ r ≡ child node b ⌝ }
+// The byte at a place of a row's word, commas past its letters.
+fn letter(row: usize, place: usize) -> usize
+    requires { ⌜ row < 8 ⌝ }
+    ensures { λ r. ⌜ r ≡ letterAt (kindIn row .word) place ⌝ }
+{
+    if place < 4 {
+        wide(WORD[row][place])
+    } else {
+        44
+    }
+}
+
+// The words of two rows agree in their first letters.
+fn alike(row: usize, other: usize, read: usize) -> bool
+    requires { ⌜ (row < 8) × (other < 8) ⌝ }
+    ensures { λ r. ⌜ r ≡ alike read (kindIn row .word) (kindIn other .word) ⌝ }
+{
+    let mut i = read;
+    while 0 < i {
+        i -= 1;
+        if letter(row, i) != letter(other, i) {
+            return false;
+        }
+    }
+    true
+}
+
+// The first row whose word has the row's first letters and then b, a comma for the word's end; 8: there is none.
+pub(crate) fn next(row: usize, read: usize, b: usize) -> usize
+    requires { ⌜ row < 8 ⌝ }
+    ensures { λ r. ⌜ r ≡ next row read b ⌝ }
 {
     let mut j = 0;
-    while j < 24 {
-        if PARENT[j] == node {
-            if LETTER[j] == b {
+    while j < KINDS {
+        if alike(row, j, read) {
+            if letter(j, read) == b {
                 return j;
             }
         }
         j += 1;
     }
-    0
+    KINDS
 }
 
-// The kind of symbol whose word ends at the node; 0: none does.
-pub(crate) fn word_at(node: usize) -> usize
-    ensures { λ r. ⌜ r ≡ wordAt node ⌝ }
+// The kind in a row.
+pub(crate) fn kind_in(row: usize) -> usize
+    requires { ⌜ row < 8 ⌝ }
+    ensures { λ r. ⌜ r ≡ kindIn row .number ⌝ }
 {
-    if node < 24 { WORD[node] } else { 0 }
+    KIND[row][0]
+}
+
+// The row of a kind; 8: of none.
+fn row_of(kind: usize) -> usize
+    ensures { λ r. ⌜ (r ≡ rowOf kind) × (r ≤ 8) ⌝ }
+{
+    let mut j = 0;
+    while j < KINDS {
+        if KIND[j][0] == kind {
+            return j;
+        }
+        j += 1;
+    }
+    KINDS
 }
 
 // How many numbers follow the word.
 pub(crate) fn field_count(kind: usize) -> usize
     ensures { λ r. ⌜ r ≡ fieldCount kind ⌝ }
 {
-    if kind < 16 {
-        if kind == 5 { 0 } else { 1 }
-    } else {
-        2
-    }
+    let j = row_of(kind);
+    KIND[j][1]
 }
 
 // The least number at a place after the word.
 pub(crate) fn low(kind: usize, place: usize) -> usize
+    requires { ⌜ place ≤ 2 ⌝ }
     ensures { λ r. ⌜ r ≡ low kind place ⌝ }
 {
-    if place == 0 {
-        if kind == 16 {
-            return 1;
-        }
-        if kind == 17 {
-            return 0;
-        }
-        if kind == 6 {
-            return 1;
-        }
-        2
-    } else {
-        0
-    }
+    let j = row_of(kind);
+    KIND[j][4 + 2 * place]
 }
 
 // The greatest number at a place after the word.
 fn high(kind: usize, place: usize) -> usize
+    requires { ⌜ place ≤ 2 ⌝ }
     ensures { λ r. ⌜ r ≡ high kind place ⌝ }
 {
-    if place == 0 {
-        if kind == 16 {
-            return 255;
-        }
-        if kind == 17 {
-            return 10;
-        }
-        if kind == 6 {
-            return 65535;
-        }
-        31
-    } else {
-        99
-    }
+    let j = row_of(kind);
+    KIND[j][5 + 2 * place]
 }
 
 // The number of operands.
 pub(crate) fn arity(kind: usize, first: usize) -> usize
     ensures { λ r. ⌜ r ≡ arity kind first ⌝ }
 {
-    if kind < 5 {
-        return first;
-    }
-    if kind == 5 {
-        return 2;
-    }
-    if kind == 6 { 1 } else { 0 }
+    let j = row_of(kind);
+    if KIND[j][2] == 1 { first } else { KIND[j][3] }
 }
 
 // Digits of value v are the start of a number of the field.
 pub(crate) fn live(kind: usize, place: usize, v: usize) -> bool
-    requires { ⌜ v ≤ 1000000 ⌝ }
+    requires { ⌜ (v ≤ 1000000) × (place ≤ 2) ⌝ }
     ensures { λ r. ⌜ r ≡ live (low kind place) (high kind place) v ⌝ }
 {
     let lo = low(kind, place);

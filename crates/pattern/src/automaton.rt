@@ -1,26 +1,30 @@
 // The automaton: what a byte, and the end of the text, do to a state.
 ghost use mathlib.Core.Path.{_≡_};
 ghost use Prim.Native.Nat.{_≤_};
-ghost use Rattle.pattern.specs.Automaton.{number, shut, wordEnd, numberEnd, step, final, endOf, Bounded};
+ghost use Rattle.pattern.specs.Automaton.{number, shut, wordEnd, letter, firstField, numberEnd, step};
+ghost use Rattle.pattern.specs.inner.Scanner.{Follow, Bounded, final, endOf};
 use super::State;
 use super::Step;
+use super::Values;
+use super::alphabet::KINDS;
 use super::alphabet::arity;
-use super::alphabet::child;
 use super::alphabet::field_count;
+use super::alphabet::kind_in;
 use super::alphabet::live;
 use super::alphabet::low;
-use super::alphabet::word_at;
+use super::alphabet::next;
 
 // Digits of a number, if they start one of the field.
-fn number(kind: usize, place: usize, first: usize, value: usize, need: usize) -> Step
-    requires { ⌜ value ≤ 1000000 ⌝ }
-    ensures { λ r. ⌜ r ≡ number kind place first value need ⌝ }
+fn number(kind: usize, place: usize, first: usize, second: usize, value: usize, need: usize) -> Step
+    requires { ⌜ (value ≤ 1000000) × (place ≤ 2) ⌝ }
+    ensures { λ r. ⌜ r ≡ number kind place first second value need ⌝ }
 {
     if live(kind, place, value) {
         Step::Within(State::Digits {
             kind,
             place,
             first,
+            second,
             value,
             need,
         })
@@ -30,9 +34,9 @@ fn number(kind: usize, place: usize, first: usize, value: usize, need: usize) ->
 }
 
 // A comma after a whole symbol.
-fn shut(kind: usize, first: usize, second: usize, need: usize) -> Step
+fn shut(kind: usize, first: usize, second: usize, third: usize, need: usize) -> Step
     requires { ⌜ (1 ≤ need) × ((need ≤ 1000000) × (first ≤ 1000000)) ⌝ }
-    ensures { λ r. ⌜ r ≡ shut kind first second need ⌝ }
+    ensures { λ r. ⌜ r ≡ shut kind first second third need ⌝ }
 {
     let n = need + arity(kind, first);
     if n == 1 {
@@ -42,53 +46,101 @@ fn shut(kind: usize, first: usize, second: usize, need: usize) -> Step
         kind,
         first,
         second,
+        third,
         next: State::Letters {
-            node: 0,
+            row: 0,
+            read: 0,
             need: n - 1,
         },
     }
 }
 
-// A comma after a word, by the kind of symbol that it is; 0: of none.
-fn word_end(word: usize, need: usize) -> Step
+// A comma after a word, by the kind of symbol that it is.
+fn word_end(kind: usize, need: usize) -> Step
     requires { ⌜ (1 ≤ need) × (need ≤ 1000000) ⌝ }
-    ensures { λ r. ⌜ r ≡ wordEnd word need ⌝ }
+    ensures { λ r. ⌜ r ≡ wordEnd kind need ⌝ }
 {
-    if word == 0 {
-        return Step::Dead;
-    }
-    if field_count(word) == 0 {
-        return shut(word, 0, 0, need);
+    if field_count(kind) == 0 {
+        return shut(kind, 0, 0, 0, need);
     }
     Step::Within(State::Field {
-        kind: word,
+        kind,
         place: 0,
         first: 0,
+        second: 0,
         need,
     })
 }
 
+// A letter, or a comma, that leads to a row.
+fn letter(row: usize, read: usize, b: usize, need: usize) -> Step
+    requires { ⌜ (1 ≤ need) × ((need ≤ 1000000) × (read ≤ 1000000)) ⌝ }
+    ensures { λ r. ⌜ r ≡ letter row read b need ⌝ }
+{
+    if row < KINDS {
+        if b == 44 {
+            return word_end(kind_in(row), need);
+        }
+        return Step::Within(State::Letters {
+            row,
+            read: read + 1,
+            need,
+        });
+    }
+    Step::Dead
+}
+
+// A symbol's numbers after the field at the place.
+fn with_value(place: usize, first: usize, second: usize, value: usize) -> Values
+    ensures { λ r. ⌜ Follow place first second value r ⌝ }
+{
+    if place == 0 {
+        return Values {
+            first: value,
+            second: 0,
+            third: 0,
+        };
+    }
+    if place == 1 {
+        return Values {
+            first,
+            second: value,
+            third: 0,
+        };
+    }
+    Values {
+        first,
+        second,
+        third: value,
+    }
+}
+
 // A comma after a number.
-fn number_end(kind: usize, place: usize, first: usize, value: usize, need: usize) -> Step
-    requires { ⌜ (1 ≤ need) × ((need ≤ 1000000) × ((first ≤ 1000000) × ((value ≤ 1000000) × (place ≤ 1000000)))) ⌝ }
-    ensures { λ r. ⌜ r ≡ numberEnd kind place first value need ⌝ }
+fn number_end(
+    kind: usize,
+    place: usize,
+    first: usize,
+    second: usize,
+    value: usize,
+    need: usize,
+) -> Step
+    requires { ⌜ (1 ≤ need) × ((need ≤ 1000000) × ((firstField place first value ≤ 1000000) × (place ≤ 2))) ⌝ }
+    ensures { λ r. ⌜ r ≡ numberEnd kind place first second value need ⌝ }
 {
     if value < low(kind, place) {
         return Step::Dead;
     }
+    let t = with_value(place, first, second, value);
     if place + 1 < field_count(kind) {
         return Step::Within(State::Field {
             kind,
             place: place + 1,
-            first: value,
+            first: t.first,
+            second: t.second,
             need,
         });
     }
-    if place == 0 {
-        shut(kind, value, 0, need)
-    } else {
-        shut(kind, first, value, need)
-    }
+    shut(kind, t.first, t.second, t.third, need)
 }
 
 // What a byte does to a state.
@@ -97,20 +149,12 @@ pub(crate) fn advance(s: State, b: usize) -> Step
     ensures { λ r. ⌜ r ≡ step s b ⌝ }
 {
     match s {
-        State::Letters { node, need } => {
-            if b == 44 {
-                return word_end(word_at(node), need);
-            }
-            let t = child(node, b);
-            if t == 0 {
-                return Step::Dead;
-            }
-            Step::Within(State::Letters { node: t, need })
-        }
+        State::Letters { row, read, need } => letter(next(row, read, b), read, b, need),
         State::Field {
             kind,
             place,
             first,
+            second,
             need,
         } => {
             if b < 48 {
@@ -119,17 +163,18 @@ pub(crate) fn advance(s: State, b: usize) -> Step
             if 57 < b {
                 return Step::Dead;
             }
-            number(kind, place, first, b - 48, need)
+            number(kind, place, first, second, b - 48, need)
         }
         State::Digits {
             kind,
             place,
             first,
+            second,
             value,
             need,
         } => {
             if b == 44 {
-                return number_end(kind, place, first, value, need);
+                return number_end(kind, place, first, second, value, need);
             }
             if b < 48 {
                 return Step::Dead;
@@ -140,22 +185,27 @@ pub(crate) fn advance(s: State, b: usize) -> Step
             if value == 0 {
                 return Step::Dead;
             }
-            number(kind, place, first, 10 * value + (b - 48), need)
+            number(kind, place, first, second, 10 * value + (b - 48), need)
         }
     }
 }
 
 // A symbol that ends the text.
-fn whole(kind: usize, first: usize, second: usize, need: usize) -> Step
+fn whole(kind: usize, first: usize, second: usize, third: usize, need: usize) -> Step
     requires { ⌜ (need ≤ 1000000) × (first ≤ 1000000) ⌝ }
-    ensures { λ r. ⌜ r ≡ final kind first second need ⌝ }
+    ensures { λ r. ⌜ r ≡ final kind first second third need ⌝ }
 {
     if need + arity(kind, first) == 1 {
         Step::Closed {
             kind,
             first,
             second,
-            next: State::Letters { node: 0, need: 0 },
+            third,
+            next: State::Letters {
+                row: 0,
+                read: 0,
+                need: 0,
+            },
         }
     } else {
         Step::Dead
@@ -168,17 +218,23 @@ pub(crate) fn last(s: State) -> Step
     ensures { λ r. ⌜ r ≡ endOf s ⌝ }
 {
     match s {
-        State::Letters { node: _, need: _ } => Step::Dead,
+        State::Letters {
+            row: _,
+            read: _,
+            need: _,
+        } => Step::Dead,
         State::Field {
             kind: _,
             place: _,
             first: _,
+            second: _,
             need: _,
         } => Step::Dead,
         State::Digits {
             kind,
             place,
             first,
+            second,
             value,
             need,
         } => {
@@ -188,11 +244,8 @@ pub(crate) fn last(s: State) -> Step
             if place + 1 < field_count(kind) {
                 return Step::Dead;
             }
-            if place == 0 {
-                whole(kind, value, 0, need)
-            } else {
-                whole(kind, first, value, need)
-            }
+            let t = with_value(place, first, second, value);
+            whole(kind, t.first, t.second, t.third, need)
         }
     }
 }

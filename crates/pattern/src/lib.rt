@@ -5,18 +5,25 @@ ghost use Rattle.pattern.specs.Reading.{ReadGives};
 
 mod alphabet;
 mod automaton;
-mod nodes;
 mod scanner;
+mod tree;
 
-use nodes::measure;
-use nodes::tabled;
+use nodes::NODES;
+use nodes::TABLE;
 use scanner::scan;
+use tree::measure;
+use tree::tabled;
 
-// The nodes in preorder: node v's kind at v, its subtree's size at 32 + v, its two numbers at 64 + v and 96 + v; zeros elsewhere.
+// The nodes in preorder: node v's kind at v, its subtree's size at 32 + v, its three numbers at 64 + v, 96 + v and 128 + v; zeros elsewhere.
 pub struct Table {
     pub count: usize,
-    pub rows: [usize; 128],
+    pub rows: [usize; TABLE],
 }
+
+// A pattern's bounds: bytes, and depth; NODES bounds its nodes.
+const PATTERN_MAX: usize = 1024;
+
+const DEPTH_MAX: usize = 8;
 
 // Accepted, or refused: too long, misspelt with the place, crowded, deep.
 pub enum Verdict {
@@ -35,9 +42,10 @@ pub struct Reading {
 
 // What has been read of a symbol, and the number of trees still to come, the present one counted.
 enum State {
-    // letters, up to a node of the trie of words
+    // letters: of a row's word, the first so many
     Letters {
-        node: usize,
+        row: usize,
+        read: usize,
         need: usize,
     },
     // a word, whole fields, and a comma
@@ -45,6 +53,7 @@ enum State {
         kind: usize,
         place: usize,
         first: usize,
+        second: usize,
         need: usize,
     },
     // and digits
@@ -52,9 +61,17 @@ enum State {
         kind: usize,
         place: usize,
         first: usize,
+        second: usize,
         value: usize,
         need: usize,
     },
+}
+
+// The numbers of a symbol, 0 for those that it has not.
+struct Values {
+    pub first: usize,
+    pub second: usize,
+    pub third: usize,
 }
 
 // What a byte does to a state.
@@ -67,23 +84,25 @@ enum Step {
         kind: usize,
         first: usize,
         second: usize,
+        third: usize,
         next: State,
     },
 }
 
-// The symbols of a text, of which at most 32 are kept.
+// The symbols of a text, of which at most NODES are kept.
 struct Scanned {
     pub whole: bool,
     pub place: usize,
     pub count: usize,
-    pub kind: [usize; 32],
-    pub first: [usize; 32],
-    pub second: [usize; 32],
+    pub kind: [usize; NODES],
+    pub first: [usize; NODES],
+    pub second: [usize; NODES],
+    pub third: [usize; NODES],
 }
 
 // The sizes of the subtrees, node by node, and the depth of the whole.
 struct Sizes {
-    pub size: [usize; 32],
+    pub size: [usize; NODES],
     pub depth: usize,
 }
 
@@ -91,7 +110,7 @@ struct Sizes {
 fn refused(verdict: Verdict) -> Reading
     ensures { λ r. ⌜ (r .verdict ≡ verdict) × (r .table ≡ noTable) ⌝ }
 {
-    let rows = [0usize; 128];
+    let rows = [0usize; TABLE];
     Reading {
         verdict,
         table: Table { count: 0, rows },
@@ -102,25 +121,26 @@ fn refused(verdict: Verdict) -> Reading
 pub fn read(text: &[u8]) -> Reading
     ensures { λ r. ⌜ ReadGives (now (text .entry)) r ⌝ }
 {
-    if 1024 < text.len() {
+    if PATTERN_MAX < text.len() {
         return refused(Verdict::Long);
     }
     let r = scan(text);
     if !r.whole {
         return refused(Verdict::Misspelt(r.place));
     }
-    if 32 < r.count {
+    if NODES < r.count {
         return refused(Verdict::Crowded);
     }
     let kind = r.kind;
     let first = r.first;
     let second = r.second;
+    let third = r.third;
     let m = measure(kind, first, r.count);
-    if 8 < m.depth {
+    if DEPTH_MAX < m.depth {
         return refused(Verdict::Deep);
     }
     let size = m.size;
-    let table = tabled(r.count, kind, size, first, second);
+    let table = tabled(r.count, kind, size, first, second, third);
     Reading {
         verdict: Verdict::Accepted,
         table,

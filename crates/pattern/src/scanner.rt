@@ -3,27 +3,24 @@ ghost use mathlib.Core.Path.{_≡_};
 ghost use mathlib.Core.Bool.{false};
 ghost use Prim.Native.Nat.{_≤_};
 ghost use lib.ListN.{length};
-ghost use Rattle.pattern.specs.Automaton.{scan, Tells, putAt};
+ghost use Rattle.pattern.specs.Automaton.{scan};
+ghost use Rattle.pattern.specs.inner.Scanner.{Tells, putAt};
 use super::Scanned;
 use super::State;
 use super::Step;
+use super::alphabet::wide;
 use super::automaton::advance;
 use super::automaton::last;
-
-// A byte as a number.
-fn wide(b: u8) -> usize
-    ensures { λ r. ⌜ (r ≡ b) × (r ≤ 255) ⌝ }
-{
-    b as usize
-}
+use nodes::NODES;
 
 // No pattern goes on past the place.
 fn stopped(place: usize) -> Scanned
     ensures { λ r. ⌜ (r .whole ≡ false) × (r .place ≡ place) ⌝ }
 {
-    let kind = [0usize; 32];
-    let first = [0usize; 32];
-    let second = [0usize; 32];
+    let kind = [0usize; NODES];
+    let first = [0usize; NODES];
+    let second = [0usize; NODES];
+    let third = [0usize; NODES];
     Scanned {
         whole: false,
         place,
@@ -31,14 +28,15 @@ fn stopped(place: usize) -> Scanned
         kind,
         first,
         second,
+        third,
     }
 }
 
 // The array with v at i, if it has such a place.
-fn put(a: &mut [usize; 32], i: usize, v: usize)
+fn put(a: &mut [usize; NODES], i: usize, v: usize)
     ensures { λ r. ⌜ now (a .exit) ≡ putAt (now (a .entry)) i v ⌝ }
 {
-    if i < 32 {
+    if i < NODES {
         a[i] = v;
     }
 }
@@ -46,13 +44,18 @@ fn put(a: &mut [usize; 32], i: usize, v: usize)
 // The symbols of a text, or the place where it stops.
 pub(crate) fn scan(text: &[u8]) -> Scanned
     requires { ⌜ length (now text) ≤ 1024 ⌝ }
-    ensures { λ r. ⌜ Tells (scan (now (text .entry)) (State.Letters 0 1)) r ⌝ }
+    ensures { λ r. ⌜ Tells (scan (now (text .entry)) (State.Letters 0 0 1)) r ⌝ }
 {
-    let mut kind = [0usize; 32];
-    let mut first = [0usize; 32];
-    let mut second = [0usize; 32];
+    let mut kind = [0usize; NODES];
+    let mut first = [0usize; NODES];
+    let mut second = [0usize; NODES];
+    let mut third = [0usize; NODES];
     let mut count: usize = 0;
-    let mut s = State::Letters { node: 0, need: 1 };
+    let mut s = State::Letters {
+        row: 0,
+        read: 0,
+        need: 1,
+    };
     let mut i = 0;
     while i < text.len() {
         let b = wide(text[i]);
@@ -68,11 +71,13 @@ pub(crate) fn scan(text: &[u8]) -> Scanned
                 kind: k,
                 first: a,
                 second: c,
+                third: d,
                 next: t,
             } => {
                 put(&mut kind, count, k);
                 put(&mut first, count, a);
                 put(&mut second, count, c);
+                put(&mut third, count, d);
                 count += 1;
                 s = t;
                 i += 1;
@@ -86,11 +91,13 @@ pub(crate) fn scan(text: &[u8]) -> Scanned
             kind: k,
             first: a,
             second: c,
+            third: d,
             next: _,
         } => {
             put(&mut kind, count, k);
             put(&mut first, count, a);
             put(&mut second, count, c);
+            put(&mut third, count, d);
             Scanned {
                 whole: true,
                 place: 0,
@@ -98,6 +105,7 @@ pub(crate) fn scan(text: &[u8]) -> Scanned
                 kind,
                 first,
                 second,
+                third,
             }
         }
     }

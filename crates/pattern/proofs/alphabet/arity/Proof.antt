@@ -1,20 +1,22 @@
--- `arity`: each branch's tests rewrite the definition to the branch's value.
+-- `arity`: the first number where the kind's row says so, else its cell.
 -- Assumes nothing.
-use borrow.Author.Tests.{lt-ltb, le-ltb, eq-eqb, ne-eqb}
+use borrow.Author.Needs.{needs}
+use Rattle.pattern.proofs.Cells.{counted-cell, fixed-cell}
 use Rattle.pattern.proofs.alphabet.arity.Statement.{statement}
 use Rattle.pattern.proofs.alphabet.arity.Tie as tie
 
 returns : tie.Need-returns
-returns c = simp (lt-ltb _ _ (c .if1 .taken))
+returns c =
+    let a = c .before .before .before .args in
+    let r = c .before .before .row-of in
+    counted-cell (a .kind) (r .result) (r .ensures .0) (r .ensures .1) (a .first) (c .if1 .taken)
 
 returns-2 : tie.Need-returns-2
-returns-2 c = simp (le-ltb _ _ (c .before .if1 .left), eq-eqb _ _ (c .if2 .taken))
-
-returns-3 : tie.Need-returns-3
-returns-3 c = simp (le-ltb _ _ (c .before .before .if1 .left), ne-eqb _ _ (c .before .if2 .left), eq-eqb _ _ (c .if3 .taken))
-
-returns-4 : tie.Need-returns-4
-returns-4 c = simp (le-ltb _ _ (c .before .before .if1 .left), ne-eqb _ _ (c .before .if2 .left), ne-eqb _ _ (c .if3 .left))
+returns-2 c =
+    let a = c .before .before .before .before .args in
+    let r = c .before .before .before .row-of in
+    fixed-cell (a .kind) (r .result) (r .ensures .0) (r .ensures .1) (a .first) (c .before .if1 .left)
 
 pub arity-spec : {M : Type 1} → statement M
-arity-spec = tie.close (tie.spec returns returns-2 returns-3 returns-4)
+arity-spec =
+    tie.close (tie.spec (λ c κs. search needs) (λ c. search needs) (λ c. search needs) (λ c. search needs) (λ c. search needs) (λ c. search needs) (λ c. search needs) returns returns-2)

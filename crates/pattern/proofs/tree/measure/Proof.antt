@@ -5,10 +5,10 @@ use lib.ListN.{getD}
 use mathlib.Core.Path.{_≡_}
 use borrow.Author.Needs.{needs}
 use native.Mathlib.Omega.{arith}
-use Rattle.pattern.specs.Automaton.{Encodes}
+use Rattle.pattern.specs.inner.Nodes.{Encodes}
 use Rattle.pattern.proofs.Sizing.{Outer, Inner, outer-begin, inner-begin, inner-bounds, inner-below, inner-sum, inner-turn, outer-turn, outer-done}
-use Rattle.pattern.proofs.nodes.measure.Statement.{statement}
-use Rattle.pattern.proofs.nodes.measure.Tie as tie
+use Rattle.pattern.proofs.tree.measure.Statement.{statement}
+use Rattle.pattern.proofs.tree.measure.Tie as tie
 
 abbrev Inv-loop2 : tie.InvT-loop2
 Inv-loop2 count kind first size depth v w c₀ d₀ m₀ c d m = (v ≡ suc w) × (c ≤ count) × (v ≤ c) × (d ≤ c) × ((e : Encodes kind first count) → Inner kind first count e v w c d m)

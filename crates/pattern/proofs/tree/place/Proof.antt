@@ -6,8 +6,8 @@ use lib.Seq.{paste, paste-zero}
 use borrow.Author.Needs.{needs}
 use native.Mathlib.Omega.{arith}
 use Rattle.pattern.proofs.Columns.{paste-turn, paste-done}
-use Rattle.pattern.proofs.nodes.place.Statement.{statement}
-use Rattle.pattern.proofs.nodes.place.Tie as tie
+use Rattle.pattern.proofs.tree.place.Statement.{statement}
+use Rattle.pattern.proofs.tree.place.Tie as tie
 
 abbrev Inv-loop : tie.InvT-loop
 Inv-loop rows₀ at column i₀ rows i = (i ≤ 32) × (rows ≡ paste rows₀ at column i)

@@ -4,10 +4,12 @@ ghost use mathlib.Core.List.{_++_};
 ghost use Prim.Native.Nat.{_≤_, max};
 ghost use lib.ListN.{length};
 ghost use lib.Seq.{paste};
-ghost use Rattle.pattern.specs.Automaton.{Encodes, Measured};
+ghost use Rattle.pattern.specs.inner.Nodes.{Encodes, Measured};
 use super::Sizes;
 use super::Table;
 use super::alphabet::arity;
+use nodes::NODES;
+use nodes::TABLE;
 
 // The larger of two numbers.
 fn larger(a: usize, b: usize) -> usize
@@ -17,12 +19,12 @@ fn larger(a: usize, b: usize) -> usize
 }
 
 // The sizes of the subtrees and the depth, from the last node to the first: a node's operands have theirs by then.
-pub(crate) fn measure(kind: [usize; 32], first: [usize; 32], count: usize) -> Sizes
+pub(crate) fn measure(kind: [usize; NODES], first: [usize; NODES], count: usize) -> Sizes
     requires { ⌜ Encodes kind first count ⌝ }
     ensures { λ r. ⌜ ((e : Encodes kind first count) → Measured (e .tree) r) ⌝ }
 {
-    let mut size = [0usize; 32];
-    let mut depth = [0usize; 32];
+    let mut size = [0usize; NODES];
+    let mut depth = [0usize; NODES];
     let mut v = count;
     while 0 < v {
         let w = v - 1;
@@ -43,32 +45,34 @@ pub(crate) fn measure(kind: [usize; 32], first: [usize; 32], count: usize) -> Si
 }
 
 // The array with the column from the place on.
-fn place(rows: &mut [usize; 128], at: usize, column: [usize; 32])
-    requires { ⌜ (length (now rows) ≡ 128) × ((at ≤ 96) × (length column ≡ 32)) ⌝ }
-    ensures { λ r. ⌜ (now (rows .exit) ≡ paste (now (rows .entry)) at column 32) × (length (now (rows .exit)) ≡ 128) ⌝ }
+fn place(rows: &mut [usize; TABLE], at: usize, column: [usize; NODES])
+    requires { ⌜ (length (now rows) ≡ 160) × ((at ≤ 128) × (length column ≡ 32)) ⌝ }
+    ensures { λ r. ⌜ (now (rows .exit) ≡ paste (now (rows .entry)) at column 32) × (length (now (rows .exit)) ≡ 160) ⌝ }
 {
     let mut i = 0;
-    while i < 32 {
+    while i < NODES {
         rows[at + i] = column[i];
         i += 1;
     }
 }
 
-// The table of four columns.
+// The table of five columns.
 pub(crate) fn tabled(
     count: usize,
-    kind: [usize; 32],
-    size: [usize; 32],
-    first: [usize; 32],
-    second: [usize; 32],
+    kind: [usize; NODES],
+    size: [usize; NODES],
+    first: [usize; NODES],
+    second: [usize; NODES],
+    third: [usize; NODES],
 ) -> Table
-    requires { ⌜ (length kind ≡ 32) × ((length size ≡ 32) × ((length first ≡ 32) × (length second ≡ 32))) ⌝ }
-    ensures { λ r. ⌜ (r .count ≡ count) × (r .rows ≡ kind ++ (size ++ (first ++ second))) ⌝ }
+    requires { ⌜ (length kind ≡ 32) × ((length size ≡ 32) × ((length first ≡ 32) × ((length second ≡ 32) × (length third ≡ 32)))) ⌝ }
+    ensures { λ r. ⌜ (r .count ≡ count) × (r .rows ≡ kind ++ (size ++ (first ++ (second ++ third)))) ⌝ }
 {
-    let mut rows = [0usize; 128];
+    let mut rows = [0usize; TABLE];
     place(&mut rows, 0, kind);
     place(&mut rows, 32, size);
     place(&mut rows, 64, first);
     place(&mut rows, 96, second);
+    place(&mut rows, 128, third);
     Table { count, rows }
 }

@@ -1,0 +1,218 @@
+-- The list of kinds: what a search in it finds, what is tested of each row by computing, and that a symbol and its kind's row say the same.
+-- Assumes nothing.
+use Prim.Native.Nat.{ℕ, zero, suc, _+_, _≤_, _<_}
+use mathlib.Core.Path.{_≡_, refl, sym, ap, _∙_}
+use mathlib.Core.Bool.{Bool, true, false, not, cond, _&&_}
+use mathlib.Core.List.{List, [], _∷_, _++_}
+use lib.Dec.{leb, eqb}
+use lib.ListN.{length, getD, take, drop}
+use lib.Seq.{drop-cons}
+use borrow.Author.Tests.{leb-true, eqb-false, not-true}
+use native.Mathlib.Numerals.{add-one}
+use native.Mathlib.Omega.{arith}
+use Rattle.pattern.specs.Kinds.{Symbol, Ev, Fr, Or, And, Row, Then, Less, Max, kindOf, numbers, firstOf, secondOf, thirdOf, Range, Operands, Fixed, Counted, Kind, from, kinds, noKind, find, kindIn, rowOf, kindBy, fieldCount, rangeAt, low, high, operandCount, arity, symbol, rank, InRange, AllInRange, Ranged}
+use Rattle.pattern.specs.declared.State.the-variants.{Letters}
+use Rattle.pattern.specs.Automaton.{next, step, wordEnd, Scan, later, go, scan}
+use Rattle.basics.proofs.Basics.{cases, and-true}
+
+-- ── A search ──
+
+-- the kind that it finds passes the test
+pub find-found : (f : Kind → Bool) (xs : List Kind) → find f xs < length xs → f (getD xs (find f xs) noKind) ≡ true
+find-found f [] = λ h. absurd (omega arith)
+find-found f (x ∷ xs) =
+    cases (f x) (λ b. cond b 0 (suc (find f xs)) < suc (length xs) → f (getD (x ∷ xs) (cond b 0 (suc (find f xs))) noKind) ≡ true) (λ e h. e) (λ e h. find-found f xs (omega arith))
+
+-- the search of all kinds, resumed from row j on
+abbrev pub Sought : (Kind → Bool) → ℕ → Type 0
+Sought f j = (j ≤ 8) × (find f kinds ≡ j + find f (drop j kinds))
+
+module _ (f : Kind → Bool) where
+  pub search-begin : Sought f 0
+  search-begin = (omega arith, go (find f kinds))
+    where
+      go : (n : ℕ) → n ≡ 0 + n
+      go n = omega arith
+
+  at : (j : ℕ) → Sought f j → j < 8 → find f kinds ≡ j + cond (f (kindIn j)) 0 (suc (find f (drop (suc j) kinds)))
+  unfolding kindIn
+  at j s h = s .1 ∙ ap (λ (l : List Kind). j + find f l) (drop-cons kinds j noKind h)
+
+  -- it ends at a row that passes
+  pub search-here : (j : ℕ) → Sought f j → j < 8 → f (kindIn j) ≡ true → j ≡ find f kinds
+  search-here j s h e = sym (at j s h ∙ (ap (λ (b : Bool). j + cond b 0 (suc (find f (drop (suc j) kinds)))) e ∙ omega arith))
+
+  -- and goes on at another
+  pub search-on : (j : ℕ) → Sought f j → j < 8 → f (kindIn j) ≡ false → Sought f (j + 1)
+  search-on j s h e = (omega arith, at j s h ∙ (ap (λ (b : Bool). j + cond b 0 (suc (find f (drop (suc j) kinds)))) e ∙ (go (find f (drop (suc j) kinds)) ∙ ap (λ (m : ℕ). (j + 1) + find f (drop m kinds)) (sym (add-one j)))))
+    where
+      go : (n : ℕ) → j + suc n ≡ (j + 1) + n
+      go n = omega arith
+
+  -- or past the last
+  pub search-end : (j : ℕ) → Sought f j → 8 ≤ j → 8 ≡ find f kinds
+  search-end j s h = let e : j ≡ 8 = omega arith in sym (s .1 ∙ ap (λ (m : ℕ). m + find f (drop m kinds)) e)
+
+-- ── Tested in each row ──
+
+-- a test of each
+abbrev every : {A : Type 0} → (A → Bool) → List A → Bool
+every f [] = true
+every f (x ∷ xs) = f x && every f xs
+
+-- and so of any, past the last too if what stands for it passes
+every-at : {A : Type 0} (f : A → Bool) (d : A) (xs : List A) → every f xs ≡ true → f d ≡ true → (i : ℕ) → f (getD xs i d) ≡ true
+every-at f d [] h e i = e
+every-at f d (x ∷ xs) h e zero = and-true (f x) (every f xs) h .0
+every-at f d (x ∷ xs) h e (suc i) = every-at f d xs (and-true (f x) (every f xs) h .1) e i
+
+-- a range starts at 10 at most, has a number, and ends at 65,535 at most
+abbrev sound-range : Range → Bool
+sound-range r = leb (r .least) 10 && (leb (r .least) (r .most) && leb (r .most) 65535)
+
+-- a symbol has 31 operands at most
+abbrev few-operands : Operands → List Range → Bool
+few-operands (Fixed n) rs = leb n 31
+few-operands Counted rs = leb (rangeAt rs 0 .most) 31
+
+-- no letter is a comma
+abbrev plain : List ℕ → Bool
+plain w = every (λ x. not (eqb x 44)) w
+
+-- each test is passed in each row, and where there is none
+tested : (f : Kind → Bool) → every f kinds ≡ true → f noKind ≡ true → (r : ℕ) → f (kindIn r) ≡ true
+unfolding kindIn
+tested f h e r = every-at f noKind kinds h e r
+
+module _ (k : ℕ) where
+  -- three numbers at most
+  pub few-fields : fieldCount k ≤ 3
+  unfolding kindBy
+  few-fields = leb-true (length (kindIn (rowOf k) .ranges)) 3 (tested (λ x. leb (length (x .ranges)) 3) refl refl (rowOf k))
+
+  pub range-sound : (j : ℕ) → (low k j ≤ 10) × (low k j ≤ high k j) × (high k j ≤ 65535)
+  unfolding kindBy
+  range-sound j =
+      let e : sound-range (rangeAt (kindBy k .ranges) j) ≡ true = every-at sound-range (from 0 0) (kindBy k .ranges) (tested (λ x. every sound-range (x .ranges)) refl refl (rowOf k)) refl j in
+      let p = and-true (leb (low k j) 10) (leb (low k j) (high k j) && leb (high k j) 65535) e in
+      let q = and-true (leb (low k j) (high k j)) (leb (high k j) 65535) (p .1) in
+      (leb-true (low k j) 10 (p .0), leb-true (low k j) (high k j) (q .0), leb-true (high k j) 65535 (q .1))
+
+  few-by : few-operands (kindBy k .operands) (kindBy k .ranges) ≡ true
+  unfolding kindBy
+  few-by = tested (λ x. few-operands (x .operands) (x .ranges)) refl refl (rowOf k)
+
+  -- the number of operands is small where the first number is
+  pub arity-below : (a : ℕ) → arity k a ≤ a + 31
+  arity-below a = go (kindBy k .operands) few-by
+    where
+      go : (o : Operands) → few-operands o (kindBy k .ranges) ≡ true → operandCount o a ≤ a + 31
+      go (Fixed n) h = omega (arith, leb-true n 31 h)
+      go Counted h = omega arith
+
+-- 31 operands at most
+pub rank-small : (h : Symbol) → Ranged h → rank h ≤ 31
+rank-small h r = go (kindBy (kindOf h) .operands) (kindBy (kindOf h) .ranges) (numbers h) (few-by (kindOf h)) r
+  where
+    go : (o : Operands) (rs : List Range) (ns : List ℕ) → few-operands o rs ≡ true → AllInRange rs ns → operandCount o (getD ns 0 0) ≤ 31
+    go (Fixed n) rs ns h a = leb-true n 31 h
+    go Counted [] [] h a = omega arith
+    go Counted [] (n ∷ ns) h a = absurd a
+    go Counted (r ∷ rs) [] h a = absurd a
+    go Counted (r ∷ rs) (n ∷ ns) h a = omega (arith, leb-true (r .most) 31 h, a .0)
+
+-- a word has four letters at most
+pub word-short : (r : ℕ) → length (kindIn r .word) ≤ 4
+word-short r = leb-true (length (kindIn r .word)) 4 (tested (λ x. leb (length (x .word)) 4) refl refl r)
+
+-- no letter of a word is a comma
+pub letter-plain : (r i : ℕ) → i < length (kindIn r .word) → getD (kindIn r .word) i 44 ≡ 44 → ⊥
+letter-plain r = go (kindIn r .word) (tested (λ x. plain (x .word)) refl refl r)
+  where
+    go : (w : List ℕ) → plain w ≡ true → (i : ℕ) → i < length w → getD w i 44 ≡ 44 → ⊥
+    go [] p i h e = absurd (omega arith)
+    go (x ∷ w) p zero h e = eqb-false x 44 (not-true (eqb x 44) (and-true (not (eqb x 44)) (plain w) p .0)) e
+    go (x ∷ w) p (suc i) h e = go w (and-true (not (eqb x 44)) (plain w) p .1) i (omega arith) e
+
+-- ── A row and its symbols ──
+
+-- the word of a kind's number
+abbrev pub wordOf : ℕ → List ℕ
+wordOf k = kindBy k .word
+
+-- bytes before, inside a symbol
+abbrev pub laters : ℕ → Scan → Scan
+laters zero x = x
+laters (suc m) x = later (laters m x)
+
+-- the symbol that a kind makes has its kind and the numbers that it was made of; a kind without numbers has operands;
+-- and the automaton reads the kind's word and the comma after it
+pub record Sound (k : ℕ) : Type 0 where
+  pub named : (a b c : ℕ) → kindOf (symbol k a b c) ≡ k
+  pub numbered : (a b c : ℕ) → numbers (symbol k a b c) ≡ take (fieldCount k) (a ∷ b ∷ c ∷ [])
+  pub some : 1 ≤ fieldCount k + arity k 0
+  pub walk : (n : ℕ) (w : List ℕ) → scan (wordOf k ++ (44 ∷ w)) (Letters 0 0 n) ≡ laters (length (wordOf k)) (go (scan w) (wordEnd k n))
+
+-- what holds of a row: its number leads back to it, and is sound
+pub record Fair (x : Kind) : Type 0 where
+  pub back : kindBy (x .number) ≡ x
+  pub sound : Sound (x .number)
+
+-- P holds of each
+abbrev Each : (Kind → Type 0) → List Kind → Type 0
+Each P [] = Unit {0}
+Each P (x ∷ xs) = P x × Each P xs
+
+-- and so of any
+each-at : (P : Kind → Type 0) (xs : List Kind) → Each P xs → (r : ℕ) → r < length xs → P (getD xs r noKind)
+each-at P [] e r h = absurd (omega arith)
+each-at P (x ∷ xs) e zero h = e .0
+each-at P (x ∷ xs) e (suc r) h = each-at P xs (e .1) r (omega arith)
+
+-- each row is fair, by computing: ev, fr, or, and, row, then, less, max
+fair-kinds : Each Fair kinds
+unfolding kindBy kindIn rowOf next step scan
+fair-kinds = (
+  record { back = refl; sound = record { named = λ a b c. refl; numbered = λ a b c. refl; some = omega arith; walk = λ n w. refl } },
+  (
+    record { back = refl; sound = record { named = λ a b c. refl; numbered = λ a b c. refl; some = omega arith; walk = λ n w. refl } },
+    (
+      record { back = refl; sound = record { named = λ a b c. refl; numbered = λ a b c. refl; some = omega arith; walk = λ n w. refl } },
+      (
+        record { back = refl; sound = record { named = λ a b c. refl; numbered = λ a b c. refl; some = omega arith; walk = λ n w. refl } },
+        (
+          record { back = refl; sound = record { named = λ a b c. refl; numbered = λ a b c. refl; some = omega arith; walk = λ n w. refl } },
+          (
+            record { back = refl; sound = record { named = λ a b c. refl; numbered = λ a b c. refl; some = omega arith; walk = λ n w. refl } },
+            (
+              record { back = refl; sound = record { named = λ a b c. refl; numbered = λ a b c. refl; some = omega arith; walk = λ n w. refl } },
+              (record { back = refl; sound = record { named = λ a b c. refl; numbered = λ a b c. refl; some = omega arith; walk = λ n w. refl } }, tt),
+            ),
+          ),
+        ),
+      ),
+    ),
+  ),
+)
+
+-- and so any
+pub fair : (r : ℕ) → r < length kinds → Fair (kindIn r)
+unfolding kindIn
+fair r h = each-at Fair kinds fair-kinds r h
+
+-- a symbol's kind is sound, and its numbers make it again
+pub record Of (h : Symbol) : Type 0 where
+  pub sound : Sound (kindOf h)
+  pub again : symbol (kindOf h) (firstOf h) (secondOf h) (thirdOf h) ≡ h
+
+-- symbol by symbol
+pub of : (h : Symbol) → Of h
+unfolding kindIn kindBy rowOf
+of (Ev a b) = record { sound = fair 0 (omega arith) .sound; again = refl }
+of (Fr a b) = record { sound = fair 1 (omega arith) .sound; again = refl }
+of (Or a) = record { sound = fair 2 (omega arith) .sound; again = refl }
+of (And a) = record { sound = fair 3 (omega arith) .sound; again = refl }
+of (Row a) = record { sound = fair 4 (omega arith) .sound; again = refl }
+of (Then a) = record { sound = fair 5 (omega arith) .sound; again = refl }
+of Less = record { sound = fair 6 (omega arith) .sound; again = refl }
+of (Max a) = record { sound = fair 7 (omega arith) .sound; again = refl }
