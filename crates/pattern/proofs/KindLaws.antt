@@ -1,7 +1,7 @@
 -- The list of kinds: what a search in it finds, what is tested of each row by computing, and that a symbol and its kind's row say the same.
 -- Assumes nothing.
 use Prim.Native.Nat.{ℕ, zero, suc, _+_, _≤_, _<_}
-use mathlib.Core.Path.{_≡_, refl, sym, ap, _∙_}
+use mathlib.Core.Path.{_≡_, refl, sym, ap, subst, _∙_}
 use mathlib.Core.Bool.{Bool, true, false, not, cond, _&&_}
 use mathlib.Core.List.{List, [], _∷_, _++_}
 use lib.Dec.{leb, eqb}
@@ -159,46 +159,39 @@ pub record Fair (x : Kind) : Type 0 where
   pub sound : Sound (x .number)
 
 -- P holds of each
-abbrev Each : (Kind → Type 0) → List Kind → Type 0
-Each P [] = Unit {0}
-Each P (x ∷ xs) = P x × Each P xs
+data Each (P : Kind → Type 0) : List Kind → Type 0 where
+  none : Each P []
+  _also_ : {x : Kind} {xs : List Kind} → P x → Each P xs → Each P (x ∷ xs)
 
+infixr 5 _also_
 -- and so of any
-each-at : (P : Kind → Type 0) (xs : List Kind) → Each P xs → (r : ℕ) → r < length xs → P (getD xs r noKind)
-each-at P [] e r h = absurd (omega arith)
-each-at P (x ∷ xs) e zero h = e .0
-each-at P (x ∷ xs) e (suc r) h = each-at P xs (e .1) r (omega arith)
+each-at : {P : Kind → Type 0} {xs : List Kind} → Each P xs → (r : ℕ) → r < length xs → P (getD xs r noKind)
+each-at none r h = absurd (omega arith)
+each-at (p also ps) zero h = p
+each-at (p also ps) (suc r) h = each-at ps r (omega arith)
 
--- each row is fair, by computing: ev, fr, or, and, row, then, less, max
+-- the row of a sound number
+by : (k : ℕ) → kindBy k .number ≡ k → Sound k → Fair (kindBy k)
+by k e s = record { back = ap kindBy e; sound = subst Sound (sym e) s }
+
+-- each row is fair, by computing
 fair-kinds : Each Fair kinds
 unfolding kindBy kindIn rowOf next step scan
-fair-kinds = (
-  record { back = refl; sound = record { named = λ a b c. refl; numbered = λ a b c. refl; some = omega arith; walk = λ n w. refl } },
-  (
-    record { back = refl; sound = record { named = λ a b c. refl; numbered = λ a b c. refl; some = omega arith; walk = λ n w. refl } },
-    (
-      record { back = refl; sound = record { named = λ a b c. refl; numbered = λ a b c. refl; some = omega arith; walk = λ n w. refl } },
-      (
-        record { back = refl; sound = record { named = λ a b c. refl; numbered = λ a b c. refl; some = omega arith; walk = λ n w. refl } },
-        (
-          record { back = refl; sound = record { named = λ a b c. refl; numbered = λ a b c. refl; some = omega arith; walk = λ n w. refl } },
-          (
-            record { back = refl; sound = record { named = λ a b c. refl; numbered = λ a b c. refl; some = omega arith; walk = λ n w. refl } },
-            (
-              record { back = refl; sound = record { named = λ a b c. refl; numbered = λ a b c. refl; some = omega arith; walk = λ n w. refl } },
-              (record { back = refl; sound = record { named = λ a b c. refl; numbered = λ a b c. refl; some = omega arith; walk = λ n w. refl } }, tt),
-            ),
-          ),
-        ),
-      ),
-    ),
-  ),
-)
+fair-kinds =
+    by 16 refl (record { named = λ a b c. refl; numbered = λ a b c. refl; some = omega arith; walk = λ n w. refl })
+    also by 17 refl (record { named = λ a b c. refl; numbered = λ a b c. refl; some = omega arith; walk = λ n w. refl })
+    also by 1 refl (record { named = λ a b c. refl; numbered = λ a b c. refl; some = omega arith; walk = λ n w. refl })
+    also by 2 refl (record { named = λ a b c. refl; numbered = λ a b c. refl; some = omega arith; walk = λ n w. refl })
+    also by 3 refl (record { named = λ a b c. refl; numbered = λ a b c. refl; some = omega arith; walk = λ n w. refl })
+    also by 4 refl (record { named = λ a b c. refl; numbered = λ a b c. refl; some = omega arith; walk = λ n w. refl })
+    also by 5 refl (record { named = λ a b c. refl; numbered = λ a b c. refl; some = omega arith; walk = λ n w. refl })
+    also by 6 refl (record { named = λ a b c. refl; numbered = λ a b c. refl; some = omega arith; walk = λ n w. refl })
+    also none
 
 -- and so any
 pub fair : (r : ℕ) → r < length kinds → Fair (kindIn r)
 unfolding kindIn
-fair r h = each-at Fair kinds fair-kinds r h
+fair r h = each-at fair-kinds r h
 
 -- a symbol's kind is sound, and its numbers make it again
 pub record Of (h : Symbol) : Type 0 where

@@ -1,5 +1,5 @@
 -- The automaton by which the reading computes: what a byte does to a state, and what it makes of a text.
--- No one need believe it: what it makes of a text is proved to be what `Says` says, which is unique (`says-outcome`, `says-unique`).
+-- `Says` and `says-unique` pin it: what it makes of a text is proved to be what `Says` says of it, and that is unique.
 -- Assumes nothing.
 use Prim.Native.Nat.{ℕ, zero, suc, _+_, _-_, _*_}
 use mathlib.Core.Bool.{Bool, true, not, cond, _&&_, _||_}

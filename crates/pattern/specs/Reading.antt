@@ -4,17 +4,15 @@ use Prim.Native.Nat.{ℕ, zero, suc}
 use mathlib.Core.Path.{_≡_}
 use mathlib.Core.Bool.{cond}
 use mathlib.Core.List.{List, [], _∷_}
-use lib.Dec.{ltb, eqb}
+use lib.Dec.{ltb}
 use lib.ListN.{length}
 use Rattle.pattern.specs.Kinds.{Symbol, rank}
 use Rattle.pattern.specs.Pattern.{Pattern, Node, Patterns, Nil, Cons, nodes, depth}
 use Rattle.pattern.specs.Automaton.{Scan, Stop, Whole, scan}
-use Rattle.pattern.specs.Answer.{table, noTable, Says}
+use Rattle.pattern.specs.Answer.{table, noTable, Says, numberOf, placeOf}
 use Rattle.pattern.specs.declared.State.the-variants.{Letters}
 use Rattle.pattern.specs.declared.Table.{Table}
 use Rattle.pattern.specs.declared.Reading.{Reading}
-use Rattle.pattern.specs.declared.Verdict.{Verdict}
-use Rattle.pattern.specs.declared.Verdict.the-variants.{Accepted, Long, Misspelt, Crowded, Deep}
 
 -- ── Symbols in preorder to trees: from the last to the first, each symbol takes its operands off the trees made so far ──
 
@@ -62,21 +60,24 @@ outcomeOf s = cond (ltb 1024 (length s)) (Refuses 2 0) (ofScan (scan s (Letters 
 
 -- ── The answer ──
 
--- the verdict by number and place
-abbrev pub verdictOf : Outcome → Verdict
-verdictOf (Accepts p) = Accepted
-verdictOf (Refuses n q) = cond (eqb n 2) Long (cond (eqb n 3) (Misspelt q) (cond (eqb n 4) Crowded Deep))
+-- an outcome's number, 0 where it accepts
+abbrev pub numberIn : Outcome → ℕ
+numberIn (Accepts p) = 0
+numberIn (Refuses n q) = n
 
--- the table with it
+-- its place
+abbrev pub placeIn : Outcome → ℕ
+placeIn (Accepts p) = 0
+placeIn (Refuses n q) = q
+
+-- its table
 abbrev pub tableOf : Outcome → Table
 tableOf (Accepts p) = table p
 tableOf (Refuses n q) = noTable
 
--- the answer to a text
-unfoldable pub readingOf : List ℕ → Reading
-readingOf s = record { verdict = verdictOf (outcomeOf s); table = tableOf (outcomeOf s) }
-
--- what `read` promises: the answer computed, and what it says of the text
+-- what `read` promises: the verdict of this number and place, of which there is one (`verdict-unique`), the table, and what they say of the text
 pub record ReadGives (s : List ℕ) (r : Reading) : Type 0 where
-  pub is : r ≡ readingOf s
+  pub number : numberOf (r .verdict) ≡ numberIn (outcomeOf s)
+  pub place : placeOf (r .verdict) ≡ placeIn (outcomeOf s)
+  pub table : r .table ≡ tableOf (outcomeOf s)
   pub says : Says s (r .verdict) (r .table)
