@@ -21,12 +21,11 @@ use Rattle.records.specs.Line.{meaning, says}
 use Rattle.lines.proofs.LinesLaws.{cut-few}
 use Rattle.pattern.specs.Answer.{numberOf, placeOf}
 use Rattle.pattern.specs.Reading as pattern
-use Rattle.pattern.specs.Reading.{Outcome, outcomeOf, tableOf, readingOf}
+use Rattle.pattern.specs.Reading.{Outcome, Accepts, Refuses, outcomeOf, numberIn, placeIn, tableOf}
 use Rattle.pattern.specs.Rows.{rowsOf}
 use Rattle.pattern.specs.declared.Reading.{Reading}
-use Rattle.pattern.specs.declared.Verdict.{Verdict}
-use Rattle.pattern.specs.declared.Verdict.the-variants.{Accepted, Long, Misspelt, Crowded, Deep}
-use Rattle.pattern.proofs.Outcomes.{accepts-spells, verdict-accepts, verdict-refuses}
+use Rattle.pattern.specs.declared.Table.{Table}
+use Rattle.pattern.proofs.Outcomes.{accepts-spells}
 use Rattle.pattern.proofs.Rows.{table-tree}
 use Rattle.meaning.specs.Meaning.{hits, overTable, tableIn}
 use Rattle.meaning.specs.Refusals.{Refusal, refused, accepted, longLog, refusal}
@@ -55,21 +54,16 @@ module _ (text log : List ℕ) where
       λ i. said (sym e i .number) (sym e i .place) (sym (ap (λ b. cond b (replicate 128 0) (tableOf (outcomeOf text) .rows)) (lt-ltb 61440 (length log) h)) i)
 
   pub read-short : (r : Reading) (n p : ℕ) → length log ≤ 61440 → pattern.ReadGives text r → n ≡ numberOf (r .verdict) → p ≡ placeOf (r .verdict) → said n p (r .table .rows) ≡ readied text log
-  unfolding readingOf
-  read-short r n p h g en ep = λ i. said ((en ∙ ap (λ (x : Refusal). x .number) (sym (says (r .verdict) refl))) i) ((ep ∙ ap (λ (x : Refusal). x .place) (sym (says (r .verdict) refl))) i) (rows i)
+  read-short r n p h g en ep =
+      let e = says (outcomeOf text) refl in
+      λ i. said ((en ∙ (g .number ∙ ap (λ (x : Refusal). x .number) (sym e))) i) ((ep ∙ (g .place ∙ ap (λ (x : Refusal). x .place) (sym e))) i) (rows i)
     where
       rows : r .table .rows ≡ rowsIn text log
-      rows = ap (λ (x : Reading). x .table .rows) (g .is) ∙ sym (ap (λ b. cond b (replicate 128 0) (tableOf (outcomeOf text) .rows)) (le-ltb 61440 (length log) h))
+      rows = ap (λ (t : Table). t .rows) (g .table) ∙ sym (ap (λ b. cond b (replicate 128 0) (tableOf (outcomeOf text) .rows)) (le-ltb 61440 (length log) h))
 
-      refusing : 1 ≤ numberOf (r .verdict) → refusal text log ≡ refused (numberOf (r .verdict)) (placeOf (r .verdict))
-      refusing k = bad-pattern text log (numberOf (r .verdict)) (placeOf (r .verdict)) h (verdict-refuses text r g k)
-
-      says : (v : Verdict) → r .verdict ≡ v → refusal text log ≡ refused (numberOf (r .verdict)) (placeOf (r .verdict))
-      says Accepted k = let o = verdict-accepts text r g k in good-pattern text log (o .pattern) h (o .accepts) ∙ sym (ap (λ (v : Verdict). refused (numberOf v) (placeOf v)) k)
-      says Long k = refusing (omega (arith, ap numberOf k))
-      says (Misspelt q) k = refusing (omega (arith, ap numberOf k))
-      says Crowded k = refusing (omega (arith, ap numberOf k))
-      says Deep k = refusing (omega (arith, ap numberOf k))
+      says : (o : Outcome) → outcomeOf text ≡ o → refusal text log ≡ refused (numberIn (outcomeOf text)) (placeIn (outcomeOf text))
+      says (Accepts q) k = good-pattern text log q h k ∙ sym (ap (λ (o : Outcome). refused (numberIn o) (placeIn o)) k)
+      says (Refuses m q) k = bad-pattern text log m q h k ∙ sym (ap (λ (o : Outcome). refused (numberIn o) (placeIn o)) k)
 
 -- ── The lists ──
 

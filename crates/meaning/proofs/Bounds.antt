@@ -10,7 +10,7 @@ use native.Mathlib.Omega.{arith}
 use Rattle.lines.proofs.LinesLaws.{cut-few}
 use Rattle.records.specs.Line.{says}
 use Rattle.pattern.specs.Answer.{noTable, Says, numberOf, placeOf}
-use Rattle.pattern.specs.Reading.{Outcome, Accepts, Refuses, outcomeOf, verdictOf}
+use Rattle.pattern.specs.Reading.{Outcome, Accepts, Refuses, outcomeOf}
 use Rattle.pattern.specs.declared.Verdict.{Verdict}
 use Rattle.pattern.specs.declared.Verdict.the-variants.{Accepted, Long, Misspelt, Crowded, Deep}
 use Rattle.pattern.specs.declared.Table.{Table}
@@ -54,7 +54,7 @@ module _ (pattern log : List ℕ) where
       go true k o j = sized-as (refused 1 0) (long-log pattern log (ltb-true 61440 (length log) k)) (record { number = omega arith; place = omega arith }) (omega arith)
       go false k (Refuses n q) j =
           let h = refuses-says pattern n q j in
-          let z = says-small pattern (verdictOf (Refuses n q)) noTable (h .says) in
+          let z = says-small pattern (h .verdict) noTable (h .says) in
           sized-as (refused n q) (bad-pattern pattern log n q (ltb-false 61440 (length log) k) j) (record { number = omega (arith, h .number, z .0); place = omega (arith, h .place, z .1) }) (omega (arith, h .some))
       go false k (Accepts p) j =
           let h = ltb-false 61440 (length log) k in

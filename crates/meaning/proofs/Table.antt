@@ -9,8 +9,9 @@ use Rattle.stretches.specs.Table.{sizeAt, secondAt, nextOf, stopOf, listAt, ope
 use Rattle.stretches.proofs.Table.{next-is, stop-is, from-more, from-end, list-node}
 use Rattle.records.specs.declared.Line.{Line}
 use Rattle.records.specs.Line.{says}
-use Rattle.pattern.specs.Pattern.{Symbol, Pattern, Patterns, Node, Nil, Cons, nodes, nodesOf}
-use Rattle.pattern.specs.Rows.{kindOf, firstOf, secondOf, Entry, Tree, Trees}
+use Rattle.pattern.specs.Kinds.{Symbol, kindOf, firstOf, secondOf}
+use Rattle.pattern.specs.Pattern.{Pattern, Patterns, Node, Nil, Cons, nodes, nodesOf}
+use Rattle.pattern.specs.Rows.{Entry, Tree, Trees}
 use Rattle.meaning.specs.Meaning.{hits, measureIn, eval, evals, overLines, answersIn, overTable, tableIn}
 
 nodes-some : (p : Pattern) → 0 < nodes p

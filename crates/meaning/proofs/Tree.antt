@@ -16,7 +16,8 @@ use Rattle.stretches.proofs.InRun.{window-cut}
 use Rattle.stretches.proofs.Marks.{window-marks}
 use Rattle.stretches.proofs.Steps.{rising-length}
 use Rattle.records.specs.declared.Line.{Line}
-use Rattle.pattern.specs.Pattern.{Symbol, Ev, Fr, Or, And, Row, Then, Less, Max, Pattern, Patterns, Node, Nil, Cons}
+use Rattle.pattern.specs.Kinds.{Symbol, Ev, Fr, Or, And, Row, Then, Less, Max}
+use Rattle.pattern.specs.Pattern.{Pattern, Patterns, Node, Nil, Cons}
 use Rattle.meaning.specs.Meaning.{Valuation, matches, operator, eval, evals, overLines, answersOf}
 
 -- ── Every list of a pattern rises, is sound and ends below n, where the leaves' lists do ──

@@ -13,8 +13,8 @@ use Rattle.stretches.specs.Table.{kindAt, firstAt, secondAt, Given, listAt}
 use Rattle.records.specs.declared.Line.{Line}
 use Rattle.records.specs.Line.{says}
 use Rattle.records.specs.Leaf.{codeIs, frameIs}
-use Rattle.pattern.specs.Pattern.{Symbol, Ev, Fr, Or, And, Row, Then, Less, Max, Pattern, Patterns, Node, Nil, Cons}
-use Rattle.pattern.specs.Rows.{kindOf, firstOf, secondOf}
+use Rattle.pattern.specs.Kinds.{Symbol, Ev, Fr, Or, And, Row, Then, Less, Max, kindOf, firstOf, secondOf}
+use Rattle.pattern.specs.Pattern.{Pattern, Patterns, Node, Nil, Cons}
 
 -- which lines a leaf matches, by its kind and numbers: `ev,c,l`, kind 16, those with code c on lane l; `fr,f,l`, kind 17, those with frame f on lane l
 abbrev pub hits : ℕ → ℕ → ℕ → Line → Bool
