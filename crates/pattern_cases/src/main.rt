@@ -4,6 +4,7 @@
 // The patterns stand in standard input, each with a semicolon and a line feed behind it; a line feed before the semicolon is the pattern's own.
 use libc::STDIN_FILENO;
 use libc::STDOUT_FILENO;
+use nodes::TABLE;
 use pattern::Verdict;
 
 // The last decimal digit.
@@ -43,7 +44,7 @@ fn answer(text: &[u8]) {
 }
 
 // The entries of node v: kind, size, first and second number.
-fn row(rows: [usize; 128], v: usize) {
+fn row(rows: [usize; TABLE], v: usize) {
     if v < 32 {
         field(rows[v], 44u8);
         field(rows[32 + v], 44u8);
