@@ -2,9 +2,9 @@
 // call: F, number, place, count, 1 for "more"; then every lent cell. A taking call: T, number, 1 for an answer, start, end; then every count cell. Each lent
 // cell holds 7 before the call. What it must write was derived from the rules of the text, not by this program.
 //
-// A call stands on a line, in decimal numbers with a comma between: 0 for a filling call or 1 for a taking call, the operator, k (0 where a taking call has
-// none), how many cells are lent, the number of the first answer or of the one taken, how many numbers the items are, these numbers, how many lists there
-// are, and where in the items each ends.
+// A call stands on a line, in decimal numbers with a comma between: 0 for a filling call or 1 for a taking call, the operator, k (0 for a taking call), how
+// many cells are lent (at most 32), the number of the first answer or of the one taken, how many numbers the items are (at most 64), how many lists there
+// are (at most 32); then these items, and for each list where in the items it ends.
 use basics::wide;
 use libc::STDIN_FILENO;
 use libc::STDOUT_FILENO;
@@ -33,24 +33,31 @@ fn show_all(s: &[u32]) {
     put(b'\n');
 }
 
+// The line of a call.
+fn line(letter: u8, a: usize, b: usize, c: usize, d: usize, cells: &[u32]) {
+    put(letter);
+    show(a);
+    show(b);
+    show(c);
+    show(d);
+    show_all(cells);
+}
+
 fn fill(op: u32, k: u32, items: &[u32], ends: &[u32], cells: &mut [u32], from: usize) {
     let r = lists::fill(op, k, items, ends, cells, from);
-    put(b'F');
-    show(r.number);
-    show(r.place);
-    show(r.count);
-    show(flag(r.more));
-    show_all(cells);
+    line(b'F', r.number, r.place, r.count, flag(r.more), cells);
 }
 
 fn take(op: u32, items: &[u32], ends: &[u32], counts: &mut [u32], number: usize) {
     let r = taking::take(op, items, ends, counts, number);
-    put(b'T');
-    show(r.number);
-    show(flag(r.found));
-    show(wide(r.start));
-    show(wide(r.end));
-    show_all(counts);
+    line(
+        b'T',
+        r.number,
+        flag(r.found),
+        wide(r.start),
+        wide(r.end),
+        counts,
+    );
 }
 
 // A number with one more digit, the greatest where that is too great.
@@ -82,18 +89,46 @@ fn small(n: usize) -> u32 {
     (n % 4294967296) as u32
 }
 
-// Reads how many numbers follow, and these as far as there is room.
-fn numbers(input: &[u8], at: &mut usize, into: &mut [u32]) -> usize {
-    let n = next(input, at);
+// What a line has before its lists; all: how many numbers the items and the ends are.
+struct Head {
+    taking: usize,
+    op: u32,
+    k: u32,
+    lent: usize,
+    number: usize,
+    items: usize,
+    all: usize,
+}
+
+fn read_head(input: &[u8], at: &mut usize) -> Head {
+    let taking = next(input, at);
+    let op = small(next(input, at));
+    let k = small(next(input, at));
+    let lent = next(input, at);
+    let number = next(input, at);
+    let items = next(input, at) % 65;
+    let lists = next(input, at) % 33;
+    Head {
+        taking,
+        op,
+        k,
+        lent,
+        number,
+        items,
+        all: items + lists,
+    }
+}
+
+// Reads n numbers, as far as there is room.
+fn numbers(input: &[u8], at: &mut usize, into: &mut [u32], n: usize) {
     let mut i = 0;
     while i < into.len() {
         if n <= i {
-            return n;
+            return;
         }
         into[i] = small(next(input, at));
         i += 1;
     }
-    n
 }
 
 // The numbers from one place to another; none where there are fewer.
@@ -107,30 +142,6 @@ fn part(s: &[u32], from: usize, to: usize) -> &[u32] {
     &s[from..to]
 }
 
-// What a line has before its lists.
-struct Head {
-    taking: usize,
-    op: u32,
-    k: u32,
-    lent: usize,
-    number: usize,
-}
-
-fn read_head(input: &[u8], at: &mut usize) -> Head {
-    let taking = next(input, at);
-    let op = small(next(input, at));
-    let k = small(next(input, at));
-    let lent = next(input, at);
-    let number = next(input, at);
-    Head {
-        taking,
-        op,
-        k,
-        lent,
-        number,
-    }
-}
-
 // Makes a call with the cells from one place to another.
 fn make(h: Head, items: &[u32], ends: &[u32], cells: &mut [u32], from: usize, to: usize) {
     if to < from {
@@ -139,25 +150,24 @@ fn make(h: Head, items: &[u32], ends: &[u32], cells: &mut [u32], from: usize, to
     if cells.len() < to {
         return;
     }
+    let lent = &mut cells[from..to];
     if h.taking == 0 {
-        fill(h.op, h.k, items, ends, &mut cells[from..to], h.number);
+        fill(h.op, h.k, items, ends, lent, h.number);
     } else {
-        take(h.op, items, ends, &mut cells[from..to], h.number);
+        take(h.op, items, ends, lent, h.number);
     }
 }
 
 // Makes the call on the line at a place.
 fn call(input: &[u8], at: &mut usize) {
     let h = read_head(input, at);
-    let mut items = [0u32; 64];
-    let n = numbers(input, at, &mut items);
-    let mut ends = [0u32; 32];
-    let m = numbers(input, at, &mut ends);
+    let mut list = [0u32; 96];
+    numbers(input, at, &mut list, h.all);
     let mut cells = [7u32; 32];
     make(
         h,
-        part(&items, 0, n),
-        part(&ends, 0, m),
+        part(&list, 0, h.items),
+        part(&list, h.items, h.all),
         &mut cells,
         0,
         h.lent,
