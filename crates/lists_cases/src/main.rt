@@ -43,23 +43,6 @@ fn line(letter: u8, a: usize, b: usize, c: usize, d: usize, cells: &[u32]) {
     show_all(cells);
 }
 
-fn fill(op: u32, k: u32, items: &[u32], ends: &[u32], cells: &mut [u32], from: usize) {
-    let r = lists::fill(op, k, items, ends, cells, from);
-    line(b'F', r.number, r.place, r.count, flag(r.more), cells);
-}
-
-fn take(op: u32, items: &[u32], ends: &[u32], counts: &mut [u32], number: usize) {
-    let r = taking::take(op, items, ends, counts, number);
-    line(
-        b'T',
-        r.number,
-        flag(r.found),
-        wide(r.start),
-        wide(r.end),
-        counts,
-    );
-}
-
 // A number with one more digit, the greatest where that is too great.
 fn longer(n: usize, digit: u8) -> usize {
     if 1844674407370955160 < n {
@@ -152,9 +135,18 @@ fn make(h: Head, items: &[u32], ends: &[u32], cells: &mut [u32], from: usize, to
     }
     let lent = &mut cells[from..to];
     if h.taking == 0 {
-        fill(h.op, h.k, items, ends, lent, h.number);
+        let r = lists::fill(h.op, h.k, items, ends, lent, h.number);
+        line(b'F', r.number, r.place, r.count, flag(r.more), lent);
     } else {
-        take(h.op, items, ends, lent, h.number);
+        let r = taking::take(h.op, items, ends, lent, h.number);
+        line(
+            b'T',
+            r.number,
+            flag(r.found),
+            wide(r.start),
+            wide(r.end),
+            lent,
+        );
     }
 }
 
