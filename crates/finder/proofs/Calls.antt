@@ -48,10 +48,10 @@ module _ (text log : List ℕ) where
   abbrev said : ℕ → ℕ → List ℕ → Readied
   said n p rows = record { number = n; place = p; rows = rows }
 
-  pub read-long : 61440 < length log → said 1 0 (replicate 128 0) ≡ readied text log
+  pub read-long : 61440 < length log → said 1 0 (replicate 160 0) ≡ readied text log
   read-long h =
       let e : refusal text log ≡ refused 1 0 = long-log text log h in
-      λ i. said (sym e i .number) (sym e i .place) (sym (ap (λ b. cond b (replicate 128 0) (tableOf (outcomeOf text) .rows)) (lt-ltb 61440 (length log) h)) i)
+      λ i. said (sym e i .number) (sym e i .place) (sym (ap (λ b. cond b (replicate 160 0) (tableOf (outcomeOf text) .rows)) (lt-ltb 61440 (length log) h)) i)
 
   pub read-short : (r : Reading) (n p : ℕ) → length log ≤ 61440 → pattern.ReadGives text r → n ≡ numberOf (r .verdict) → p ≡ placeOf (r .verdict) → said n p (r .table .rows) ≡ readied text log
   read-short r n p h g en ep =
@@ -59,7 +59,7 @@ module _ (text log : List ℕ) where
       λ i. said ((en ∙ (g .number ∙ ap (λ (x : Refusal). x .number) (sym e))) i) ((ep ∙ (g .place ∙ ap (λ (x : Refusal). x .place) (sym e))) i) (rows i)
     where
       rows : r .table .rows ≡ rowsIn text log
-      rows = ap (λ (t : Table). t .rows) (g .table) ∙ sym (ap (λ b. cond b (replicate 128 0) (tableOf (outcomeOf text) .rows)) (le-ltb 61440 (length log) h))
+      rows = ap (λ (t : Table). t .rows) (g .table) ∙ sym (ap (λ b. cond b (replicate 160 0) (tableOf (outcomeOf text) .rows)) (le-ltb 61440 (length log) h))
 
       says : (o : Outcome) → outcomeOf text ≡ o → refusal text log ≡ refused (numberIn (outcomeOf text)) (placeIn (outcomeOf text))
       says (Accepts q) k = good-pattern text log q h k ∙ sym (ap (λ (o : Outcome). refused (numberIn o) (placeIn o)) k)
@@ -87,7 +87,7 @@ list-in text log e =
     let a = accepts-spells text (k .tree) (k .reads) in
     let s : longLog log ≡ false = le-ltb 61440 (length log) (k .brief) in
     ap (λ b. cond b [] (tableIn (rowsIn text log) log)) s
-    ∙ ap (λ (r : List ℕ). tableIn r log) (ap (λ b. cond b (replicate 128 0) (tableOf (outcomeOf text) .rows)) s ∙ ap (λ (o : Outcome). tableOf o .rows) (k .reads))
+    ∙ ap (λ (r : List ℕ). tableIn r log) (ap (λ b. cond b (replicate 160 0) (tableOf (outcomeOf text) .rows)) s ∙ ap (λ (o : Outcome). tableOf o .rows) (k .reads))
     ∙ table-answers (rowsOf (k .tree)) (k .tree) log (table-tree (k .tree) (a .few)) (a .few) ∙ sym (accepted-list text log (k .tree) (k .brief) (k .reads))
 
 -- ── Filling ──
@@ -127,7 +127,7 @@ short-width log w e h = omega (arith, says-few log)
 
 -- over the machine's table
 pub machine-fills : (rows log : List ℕ) (w : ℕ) (words t words′ : List ℕ) (line f : ℕ) (cells : List ℕ) (r : Walked) (cells′ : List ℕ)
-    → (length rows ≡ 128) × (w ≡ widthOf log) × (w ≤ 960) × (32 * w ≤ length words) → t ≡ prepared rows log w words .rows → words′ ≡ prepared rows log w words .words
+    → (length rows ≡ 160) × (w ≡ widthOf log) × (w ≤ 960) × (32 * w ≤ length words) → t ≡ prepared rows log w words .rows → words′ ≡ prepared rows log w words .words
     → FillAll (source words′ []) t line f cells r cells′ → Filling (onward (tableIn rows log) line) f cells r cells′
 unfolding tableIn
 machine-fills rows log w words t words′ line f cells r cells′ h et ew g =

@@ -20,7 +20,7 @@ use Rattle.finder.specs.declared.Readied.{Readied}
 
 -- a pattern's table; where pattern or log is refused, zeros
 abbrev pub rowsIn : List ℕ → List ℕ → List ℕ
-rowsIn pattern log = cond (longLog log) (replicate 128 0) (tableOf (outcomeOf pattern) .rows)
+rowsIn pattern log = cond (longLog log) (replicate 160 0) (tableOf (outcomeOf pattern) .rows)
 
 -- no answer found yet, and the first is sought from line 0 on
 abbrev pub fresh : Bool → List ℕ → Finder

@@ -1,5 +1,6 @@
 // The finder: opens on a pattern and a log, gives the next stretch at each step, or fills all of them into lent cells.
 use meaning::Filled;
+use nodes::TABLE;
 use pattern::Verdict;
 use walk::Walked;
 ghost use mathlib.Core.Path.{_≡_};
@@ -116,7 +117,7 @@ fn fill_with(
     line: u32,
     from: usize,
 ) -> Walked
-    requires { ⌜ (length (now rows) ≡ 128) × (width ≡ widthOf (now log)) × (width ≤ 960) × (32 * width ≤ length (now words)) ⌝ }
+    requires { ⌜ (length (now rows) ≡ 160) × (width ≡ widthOf (now log)) × (width ≤ 960) × (32 * width ≤ length (now words)) ⌝ }
     ensures { λ r. ⌜ Filling (onward (tableIn (now (rows .entry)) (now (log .entry))) line) from (now (cells .entry)) r (now (cells .exit)) ⌝ }
 {
     let table = plan::prepare(rows, log, width, words);
@@ -133,7 +134,7 @@ fn fill_small(
     line: u32,
     from: usize,
 ) -> Walked
-    requires { ⌜ (length (now rows) ≡ 128) × (width ≡ widthOf (now log)) × (width ≤ 128) ⌝ }
+    requires { ⌜ (length (now rows) ≡ 160) × (width ≡ widthOf (now log)) × (width ≤ 128) ⌝ }
     ensures { λ r. ⌜ Filling (onward (tableIn (now (rows .entry)) (now (log .entry))) line) from (now (cells .entry)) r (now (cells .exit)) ⌝ }
 {
     let mut words = [0u64; 4096];
@@ -149,7 +150,7 @@ fn fill_large(
     line: u32,
     from: usize,
 ) -> Walked
-    requires { ⌜ (length (now rows) ≡ 128) × (width ≡ widthOf (now log)) × (width ≤ 960) ⌝ }
+    requires { ⌜ (length (now rows) ≡ 160) × (width ≡ widthOf (now log)) × (width ≤ 960) ⌝ }
     ensures { λ r. ⌜ Filling (onward (tableIn (now (rows .entry)) (now (log .entry))) line) from (now (cells .entry)) r (now (cells .exit)) ⌝ }
 {
     let mut words = [0u64; 30720];
@@ -158,7 +159,7 @@ fn fill_large(
 
 // Writes the table's answers in the log that start at or after `line`, from number `from` of them on; a log that is too long has none.
 fn fill_from(rows: &[usize; TABLE], log: &[u8], cells: &mut [u32], line: u32, from: usize) -> Walked
-    requires { ⌜ length (now rows) ≡ 128 ⌝ }
+    requires { ⌜ length (now rows) ≡ 160 ⌝ }
     ensures { λ r. ⌜ Filling (onward (listIn (now (rows .entry)) (now (log .entry))) line) from (now (cells .entry)) r (now (cells .exit)) ⌝ }
 {
     if LOG_MAX < log.len() {
