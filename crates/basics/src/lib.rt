@@ -28,14 +28,14 @@ pub fn most(a: u32, b: u32) -> u32
 pub fn shorter(a: usize, b: usize) -> usize
     ensures { λ r. ⌜ r ≡ min a b ⌝ }
 {
-    if b < a { b } else { a }
+    if a <= b { a } else { b }
 }
 
 // The greater of two lengths.
 pub fn longer(a: usize, b: usize) -> usize
     ensures { λ r. ⌜ r ≡ max a b ⌝ }
 {
-    if a < b { b } else { a }
+    if b <= a { a } else { b }
 }
 
 // The first n bytes; all where they are fewer.

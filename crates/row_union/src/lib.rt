@@ -10,10 +10,10 @@ pub fn clear(words: &mut [u64], at: usize, width: usize)
     if !inside(words.len(), at, width) {
         return;
     }
-    let mut k = 0;
-    while k < width {
-        words[at + k] = 0;
-        k += 1;
+    let mut i = 0;
+    while i < width {
+        words[at + i] = 0;
+        i += 1;
     }
 }
 

@@ -29,7 +29,7 @@ use Rattle.meaning.proofs.Finding.{long-log, bad-pattern, accepted-list, accept
 use Rattle.meaning.proofs.Bounds.{sized}
 use Rattle.marking.specs.declared.pass.Counted.{Counted}
 use Rattle.marking.specs.Rows.{counted}
-use Rattle.input.specs.declared.Taken.{Taken}
+use Rattle.input.specs.declared.Intake.{Intake}
 use Rattle.input.specs.Input.{patternOf, logOf, Keeps}
 use Rattle.print.specs.Print.{field, rows, foundSheet, refusedSheet, shown, Writes}
 use Rattle.print.proofs.Decimals.{length-below}
@@ -102,7 +102,7 @@ pub cut-sheet : (pattern log : List ℕ) (m n : ℕ) → 1025 ≤ m → 61441 �
 cut-sheet pattern log m n h k = cut-pattern pattern (take n log) m h ∙ cut-log pattern log n k
 
 -- what is kept of an input has the input's sheet
-pub keeps-sheet : (input : List ℕ) (t : Taken) (p l : List ℕ) → Keeps input t p l → 1025 ≤ length p → 61441 ≤ length l
+pub keeps-sheet : (input : List ℕ) (t : Intake) (p l : List ℕ) → Keeps input t p l → 1025 ≤ length p → 61441 ≤ length l
     → printed (take (t .pattern) p) (take (t .log) l) ≡ printedOf input
 keeps-sheet input t p l k h j = ap₂ printed (k .pattern .bytes) (k .log .bytes) ∙ cut-sheet (patternOf input) (logOf input) (length p) (length l) h j
 

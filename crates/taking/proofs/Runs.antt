@@ -76,7 +76,7 @@ module _ (items ends counts counts′ : List ℕ) (c v : Item) where
 -- ── The calls one after another ──
 
 module _ (b : Bool) (items ends : List ℕ) where
-  abbrev answered : ℕ → Taken
+  abbrev answered : ℕ → AnswerCounts
   answered p = taking (opOf b) (listsOf items ends) p
 
   pub run-first : (counts counts′ : List ℕ) (c r : Item) → frontOf c ≡ None → take (length ends) counts ≡ replicate (length ends) 1
@@ -96,13 +96,13 @@ module _ (b : Bool) (items ends : List ℕ) where
       record { wide = g .wide ∙ h .wide; is = g .is ∙ (ap (next (opOf b) (listsOf items ends)) (h .is) ∙ ap answered z); rest = g .rest ∙ h .rest }
 
   -- from the place of the run's start on
-  pub run-from : (s : Taken) (counts₀ counts₁ counts₂ counts : List ℕ) (ks : List ℕ) (r : Item) → Moved (length ends) ks counts₀ counts₁
+  pub run-from : (s : AnswerCounts) (counts₀ counts₁ counts₂ counts : List ℕ) (ks : List ℕ) (r : Item) → Moved (length ends) ks counts₀ counts₁
       → length counts₂ ≡ length counts₁ → drop (length ends) counts₂ ≡ drop (length ends) counts₁ → Handed (length ends) s counts₂ counts r → Handed (length ends) s counts₀ counts r
   run-from s counts₀ counts₁ counts₂ counts ks r m w d h = record { wide = h .wide ∙ (w ∙ m .wide); is = h .is; rest = h .rest ∙ (d ∙ m .rest) }
 
   module _ (f : AllFine 65536 (listsOf items ends)) where
     answer-is : (b : Bool) (p : ℕ) → taking (opOf b) (listsOf items ends) p .answer ≡ nth (answers (opOf b) (listsOf items ends)) p
-    answer-is true p = ap (λ (s : Taken). s .answer) (or-taken (listsOf items ends) (f .rising) (f .sound) p)
+    answer-is true p = ap (λ (s : AnswerCounts). s .answer) (or-taken (listsOf items ends) (f .rising) (f .sound) p)
     answer-is false p = and-taken (listsOf items ends) (f .rising) (f .sound) p
 
     stays : (b : Bool) (p : ℕ) → nth (answers (opOf b) (listsOf items ends)) p ≡ None → taking (opOf b) (listsOf items ends) (suc p) ≡ taking (opOf b) (listsOf items ends) p
@@ -118,5 +118,5 @@ module _ (b : Bool) (items ends : List ℕ) where
   run-none number p counts₀ counts c l le f h =
       let a = fine-lists (listsOf items ends) (l .order) in
       let z : number - p + p ≡ number = omega arith in
-      let w : nth (answers (opOf b) (listsOf items ends)) p ≡ None = sym (answer-is a b p) ∙ (ap (λ (s : Taken). s .answer) (sym (h .is)) ∙ front-none c f) in
+      let w : nth (answers (opOf b) (listsOf items ends)) p ≡ None = sym (answer-is a b p) ∙ (ap (λ (s : AnswerCounts). s .answer) (sym (h .is)) ∙ front-none c f) in
       record { wide = h .wide; is = h .is ∙ (sym (stay a (number - p) p w) ∙ ap answered z); rest = h .rest }

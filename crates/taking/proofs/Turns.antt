@@ -85,7 +85,7 @@ module _ (b : Bool) (items ends : List ℕ) (c : Front) where
 
 -- ── Lines 6 to 11 of Algorithm 3 ──
 
-abbrev hand : Stretch → List ℕ → Taken
+abbrev hand : Stretch → List ℕ → AnswerCounts
 hand c ks = record { answer = At c; counts = ks }
 
 module _ (ls : List (List Stretch)) (c : Stretch) (ks : List ℕ) where
@@ -101,12 +101,12 @@ module _ (ls : List (List Stretch)) (c : Stretch) (ks : List ℕ) where
       ap (λ v. cond v (hand c ks) (again (span (fronts ls (advance startsFirst ls ks))) c (advance startsFirst ls ks) (λ x. shrink m ls x (advance startsFirst ls ks)))) e
       ∙ ap (λ (j : ℕ). again (span (fronts ls (advance startsFirst ls ks))) c (advance startsFirst ls ks) (λ x. shrink j ls x (advance startsFirst ls ks))) z
 
-again-off : (g : Front) (c : Stretch) (ks : List ℕ) (f : Stretch → Taken) → contains (At c) g ≡ false → again g c ks f ≡ hand c ks
+again-off : (g : Front) (c : Stretch) (ks : List ℕ) (f : Stretch → AnswerCounts) → contains (At c) g ≡ false → again g c ks f ≡ hand c ks
 again-off None c ks f e = refl
 again-off (At x) c ks f e = ap (λ v. cond v (f x) (hand c ks)) e
 
 module _ (items ends : List ℕ) (c₀ : Stretch) where
-  abbrev goal : List ℕ → Taken
+  abbrev goal : List ℕ → AnswerCounts
   goal counts = shrink (suc (total (listsOf items ends))) (listsOf items ends) c₀ (take (length ends) counts)
 
   -- with `left` turns left, the candidate and the counts lead to what they led to at first

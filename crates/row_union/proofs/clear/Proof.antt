@@ -1,4 +1,4 @@
--- `row_union::clear` meets its contract. The loop's invariant: the first k words of the row are clear. Assumes nothing.
+-- `row_union::clear` meets its contract. The loop's invariant: the first i words of the row are clear. Assumes nothing.
 use Prim.Native.Nat.{ℕ, _+_, _-_, _≤_}
 use mathlib.Core.Path.{_≡_, refl, sym, ap, _∙_}
 use mathlib.Core.List.{[]}
@@ -13,10 +13,10 @@ use Rattle.row_union.proofs.clear.Statement.{statement}
 use Rattle.row_union.proofs.clear.Tie as tie
 
 abbrev Inv-loop : tie.InvT-loop
-Inv-loop words₀ at width k₀ words k = (k ≤ width) × (length words ≡ length words₀) × (at + width ≤ length words₀) × (words ≡ withRow words₀ at k [])
+Inv-loop words₀ at width i₀ words i = (i ≤ width) × (length words ≡ length words₀) × (at + width ≤ length words₀) × (words ≡ withRow words₀ at i [])
 
 abbrev μ-loop : tie.MeasureT-loop
-μ-loop words₀ at width k₀ words k = width - k
+μ-loop words₀ at width i₀ words i = width - i
 
 returns : tie.Need-returns Inv-loop μ-loop
 returns c = let a = c .before .before .before .args in cleared-not (a .words .now) (a .at) (a .width) (said-no (c .before .inside .ensures) (c .if1 .taken))
@@ -32,13 +32,13 @@ loop-again : tie.Need-loop-again Inv-loop μ-loop
 loop-again c =
     let a = c .before .before .before .before .before .args in
     let l = c .before .loop in
-    (omega arith, simp length-set (l .inv .1), l .inv .2, clear-turn (a .words .now) (l .words) (a .at) (l .k) (omega (arith, l .inv .2)) (l .inv .3))
+    (omega arith, simp length-set (l .inv .1), l .inv .2, clear-turn (a .words .now) (l .words) (a .at) (l .i) (omega (arith, l .inv .2)) (l .inv .3))
 
 returns-2 : tie.Need-returns-2 Inv-loop μ-loop
 returns-2 c =
     let a = c .before .before .before .before .before .args in
     let l = c .before .loop in
-    let z : l .k ≡ a .width = omega arith in
+    let z : l .i ≡ a .width = omega arith in
     l .inv .3 ∙ ap (λ (x : ℕ). withRow (a .words .now) (a .at) x []) z ∙ cleared-is (a .words .now) (a .at) (a .width) (within (c .before .before) .inside)
 
 pub clear-spec : {M : Type 1} → statement M
