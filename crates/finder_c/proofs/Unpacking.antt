@@ -7,7 +7,7 @@ use native.Mathlib.Omega.{arith}
 use Rattle.meaning.specs.declared.Filled.{Filled}
 use Rattle.meaning.specs.Finding.{filling}
 use Rattle.lists.specs.Filling.{fillResult}
-use Rattle.lists.specs.Taking.{takeResult}
+use Rattle.taking.specs.Taking.{takeResult}
 use Rattle.finder_c.specs.Packing.{bit, packedFill, packedTaken, refusalIn, flagIn, placeIn, writtenIn, endIn, ReadsFill, ReadsTaken}
 use Rattle.finder_c.proofs.Small.{filling-small, lists-small, taking-small}
 
