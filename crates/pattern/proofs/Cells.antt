@@ -22,7 +22,7 @@ abbrev spaced : Kind → List ℕ
 spaced x = letterAt (x .word) 0 ∷ letterAt (x .word) 1 ∷ letterAt (x .word) 2 ∷ letterAt (x .word) 3 ∷ []
 
 -- a letter's cell
-pub letter-cell : (r i : ℕ) → r < 8 → i < 4 → getD (getD (map spaced kinds) r []) i 0 ≡ letterAt (kindIn r .word) i
+pub letter-cell : (r i : ℕ) → r < length kinds → i < 4 → getD (getD (map spaced kinds) r []) i 0 ≡ letterAt (kindIn r .word) i
 unfolding kindIn
 letter-cell r i h l = ap (λ (x : List ℕ). getD x i 0) (row-at spaced kinds r h) ∙ go (kindIn r) i l
   where
@@ -60,12 +60,12 @@ behind (x ∷ xs) zero = refl
 behind (x ∷ xs) (suc r) = behind xs r
 
 -- a cell of the table
-pub cell : (r i : ℕ) → r ≤ 8 → getD (getD table r []) i 0 ≡ getD (cells (kindIn r)) i 0
+pub cell : (r i : ℕ) → r ≤ length kinds → getD (getD table r []) i 0 ≡ getD (cells (kindIn r)) i 0
 unfolding kindIn
 cell r i h = ap (λ (x : List ℕ). getD x i 0) (row-at cells (kinds ++ (noKind ∷ [])) r (omega arith) ∙ ap cells (behind kinds r))
 
 -- the cells of a kind's row
-module _ (k r : ℕ) (e : r ≡ rowOf k) (h : r ≤ 8) where
+module _ (k r : ℕ) (e : r ≡ rowOf k) (h : r ≤ length kinds) where
   cell-by : (i : ℕ) → getD (getD table r []) i 0 ≡ getD (cells (kindBy k)) i 0
   unfolding kindBy
   cell-by i = cell r i h ∙ ap (λ (x : ℕ). getD (cells (kindIn x)) i 0) e

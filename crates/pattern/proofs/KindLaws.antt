@@ -10,7 +10,7 @@ use lib.Seq.{drop-cons}
 use borrow.Author.Tests.{leb-true, eqb-false, not-true}
 use native.Mathlib.Numerals.{add-one}
 use native.Mathlib.Omega.{arith}
-use Rattle.pattern.specs.Kinds.{Symbol, Ev, Fr, Or, And, Row, Then, Less, Max, kindOf, numbers, firstOf, secondOf, thirdOf, Range, Operands, Fixed, Counted, Kind, from, kinds, noKind, find, kindIn, rowOf, kindBy, fieldCount, rangeAt, low, high, operandCount, arity, symbol, rank, InRange, AllInRange, Ranged}
+use Rattle.pattern.specs.Kinds.{Symbol, Ev, Fr, Or, And, Row, Then, Less, Max, kindOf, numbers, firstOf, secondOf, thirdOf, Range, Operands, Fixed, Counted, Kind, from, kinds, noKind, find, kindIn, rowOf, kindBy, fieldCount, rangeAt, low, high, operandCount, arity, symbol, rank, AllInRange, Ranged}
 use Rattle.pattern.specs.declared.State.the-variants.{Letters}
 use Rattle.pattern.specs.Automaton.{next, step, wordEnd, Scan, later, go, scan}
 use Rattle.basics.proofs.Basics.{cases, and-true}
@@ -25,7 +25,7 @@ find-found f (x ∷ xs) =
 
 -- the search of all kinds, resumed from row j on
 abbrev pub Sought : (Kind → Bool) → ℕ → Type 0
-Sought f j = (j ≤ 8) × (find f kinds ≡ j + find f (drop j kinds))
+Sought f j = (j ≤ length kinds) × (find f kinds ≡ j + find f (drop j kinds))
 
 module _ (f : Kind → Bool) where
   pub search-begin : Sought f 0
@@ -34,24 +34,24 @@ module _ (f : Kind → Bool) where
       go : (n : ℕ) → n ≡ 0 + n
       go n = omega arith
 
-  at : (j : ℕ) → Sought f j → j < 8 → find f kinds ≡ j + cond (f (kindIn j)) 0 (suc (find f (drop (suc j) kinds)))
+  at : (j : ℕ) → Sought f j → j < length kinds → find f kinds ≡ j + cond (f (kindIn j)) 0 (suc (find f (drop (suc j) kinds)))
   unfolding kindIn
   at j s h = s .1 ∙ ap (λ (l : List Kind). j + find f l) (drop-cons kinds j noKind h)
 
   -- it ends at a row that passes
-  pub search-here : (j : ℕ) → Sought f j → j < 8 → f (kindIn j) ≡ true → j ≡ find f kinds
+  pub search-here : (j : ℕ) → Sought f j → j < length kinds → f (kindIn j) ≡ true → j ≡ find f kinds
   search-here j s h e = sym (at j s h ∙ (ap (λ (b : Bool). j + cond b 0 (suc (find f (drop (suc j) kinds)))) e ∙ omega arith))
 
   -- and goes on at another
-  pub search-on : (j : ℕ) → Sought f j → j < 8 → f (kindIn j) ≡ false → Sought f (j + 1)
+  pub search-on : (j : ℕ) → Sought f j → j < length kinds → f (kindIn j) ≡ false → Sought f (j + 1)
   search-on j s h e = (omega arith, at j s h ∙ (ap (λ (b : Bool). j + cond b 0 (suc (find f (drop (suc j) kinds)))) e ∙ (go (find f (drop (suc j) kinds)) ∙ ap (λ (m : ℕ). (j + 1) + find f (drop m kinds)) (sym (add-one j)))))
     where
       go : (n : ℕ) → j + suc n ≡ (j + 1) + n
       go n = omega arith
 
   -- or past the last
-  pub search-end : (j : ℕ) → Sought f j → 8 ≤ j → 8 ≡ find f kinds
-  search-end j s h = let e : j ≡ 8 = omega arith in sym (s .1 ∙ ap (λ (m : ℕ). m + find f (drop m kinds)) e)
+  pub search-end : (j : ℕ) → Sought f j → length kinds ≤ j → length kinds ≡ find f kinds
+  search-end j s h = let e : j ≡ length kinds = omega arith in sym (s .1 ∙ ap (λ (m : ℕ). m + find f (drop m kinds)) e)
 
 -- ── Tested in each row ──
 
@@ -201,11 +201,11 @@ pub record Of (h : Symbol) : Type 0 where
 -- symbol by symbol
 pub of : (h : Symbol) → Of h
 unfolding kindIn kindBy rowOf
-of (Ev a b) = record { sound = fair 0 (omega arith) .sound; again = refl }
-of (Fr a b) = record { sound = fair 1 (omega arith) .sound; again = refl }
-of (Or a) = record { sound = fair 2 (omega arith) .sound; again = refl }
-of (And a) = record { sound = fair 3 (omega arith) .sound; again = refl }
-of (Row a) = record { sound = fair 4 (omega arith) .sound; again = refl }
-of (Then a) = record { sound = fair 5 (omega arith) .sound; again = refl }
-of Less = record { sound = fair 6 (omega arith) .sound; again = refl }
-of (Max a) = record { sound = fair 7 (omega arith) .sound; again = refl }
+of (Ev a b) = record { sound = fair (rowOf 16) (omega arith) .sound; again = refl }
+of (Fr a b) = record { sound = fair (rowOf 17) (omega arith) .sound; again = refl }
+of (Or a) = record { sound = fair (rowOf 1) (omega arith) .sound; again = refl }
+of (And a) = record { sound = fair (rowOf 2) (omega arith) .sound; again = refl }
+of (Row a) = record { sound = fair (rowOf 3) (omega arith) .sound; again = refl }
+of (Then a) = record { sound = fair (rowOf 4) (omega arith) .sound; again = refl }
+of Less = record { sound = fair (rowOf 5) (omega arith) .sound; again = refl }
+of (Max a) = record { sound = fair (rowOf 6) (omega arith) .sound; again = refl }

@@ -69,13 +69,15 @@ pub record Kind : Type 0 where
   pub operands : Operands
   pub make : ℕ → ℕ → ℕ → Symbol
 
+-- from a to b
 abbrev pub from : ℕ → ℕ → Range
 from a b = record { least = a; most = b }
 
+-- a row of the list
 abbrev pub kind : ℕ → List ℕ → List Range → Operands → (ℕ → ℕ → ℕ → Symbol) → Kind
 kind k w rs o f = record { number = k; word = w; ranges = rs; operands = o; make = f }
 
--- ev,c,l  fr,f,l  or,n,..  and,n,..  row,n,..  then,n,..  less,A,B  max,k,A
+-- ev,c,l  fr,f,l  or,n,..  and,n,..  row,n,..  then,n,..  less,A,B  max,k,A; that symbols and rows agree is proved once (`fair-kinds`)
 abbrev pub kinds : List Kind
 kinds =
     kind 16 (101 ∷ 118 ∷ []) (from 1 255 ∷ from 0 99 ∷ []) (Fixed 0) (λ a b c. Ev a b)

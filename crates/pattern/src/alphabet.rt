@@ -1,7 +1,8 @@
 // The kinds of symbols: their words, numbers and operands, read off two tables with a row for each kind.
 ghost use mathlib.Core.Path.{_≡_};
 ghost use Prim.Native.Nat.{_≤_, _<_};
-ghost use Rattle.pattern.specs.Kinds.{kindIn, rowOf, fieldCount, low, high, arity};
+ghost use lib.ListN.{length};
+ghost use Rattle.pattern.specs.Kinds.{kinds, kindIn, rowOf, fieldCount, low, high, arity};
 ghost use Rattle.pattern.specs.Automaton.{letterAt, alike, next, live};
 use nodes::AND;
 use nodes::EV;
@@ -16,7 +17,7 @@ use nodes::THEN;
 pub(crate) const KINDS: usize = 8;
 
 // The words, filled up with commas.
-const WORD: [[u8; 4]; 8] = [
+const WORD: [[u8; 4]; KINDS] = [
     [b'e', b'v', b',', b','],
     [b'f', b'r', b',', b','],
     [b'o', b'r', b',', b','],
@@ -50,7 +51,7 @@ pub(crate) fn wide(b: u8) -> usize
 
 // The byte at a place of a row's word, commas past its letters.
 fn letter(row: usize, place: usize) -> usize
-    requires { ⌜ row < 8 ⌝ }
+    requires { ⌜ row < length kinds ⌝ }
     ensures { λ r. ⌜ r ≡ letterAt (kindIn row .word) place ⌝ }
 {
     if place < 4 {
@@ -62,7 +63,7 @@ fn letter(row: usize, place: usize) -> usize
 
 // The words of two rows agree in their first letters.
 fn alike(row: usize, other: usize, read: usize) -> bool
-    requires { ⌜ (row < 8) × (other < 8) ⌝ }
+    requires { ⌜ (row < length kinds) × (other < length kinds) ⌝ }
     ensures { λ r. ⌜ r ≡ alike read (kindIn row .word) (kindIn other .word) ⌝ }
 {
     let mut i = read;
@@ -75,9 +76,9 @@ fn alike(row: usize, other: usize, read: usize) -> bool
     true
 }
 
-// The first row whose word has the row's first letters and then b, a comma for the word's end; 8: there is none.
+// The first row whose word has the row's first letters and then b, a comma for the word's end; KINDS: there is none.
 pub(crate) fn next(row: usize, read: usize, b: usize) -> usize
-    requires { ⌜ row < 8 ⌝ }
+    requires { ⌜ row < length kinds ⌝ }
     ensures { λ r. ⌜ r ≡ next row read b ⌝ }
 {
     let mut j = 0;
@@ -94,15 +95,15 @@ pub(crate) fn next(row: usize, read: usize, b: usize) -> usize
 
 // The kind in a row.
 pub(crate) fn kind_in(row: usize) -> usize
-    requires { ⌜ row < 8 ⌝ }
+    requires { ⌜ row < length kinds ⌝ }
     ensures { λ r. ⌜ r ≡ kindIn row .number ⌝ }
 {
     KIND[row][0]
 }
 
-// The row of a kind; 8: of none.
+// The row of a kind; KINDS: of none.
 fn row_of(kind: usize) -> usize
-    ensures { λ r. ⌜ (r ≡ rowOf kind) × (r ≤ 8) ⌝ }
+    ensures { λ r. ⌜ (r ≡ rowOf kind) × (r ≤ length kinds) ⌝ }
 {
     let mut j = 0;
     while j < KINDS {

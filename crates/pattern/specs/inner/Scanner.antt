@@ -6,7 +6,7 @@ use mathlib.Core.Bool.{true, false, cond}
 use mathlib.Core.List.{List, map}
 use lib.Dec.{leb, ltb, eqb}
 use lib.ListN.{length, set}
-use Rattle.pattern.specs.Kinds.{Symbol, kindOf, firstOf, secondOf, thirdOf, fieldCount, low, arity}
+use Rattle.pattern.specs.Kinds.{Symbol, kinds, kindOf, firstOf, secondOf, thirdOf, fieldCount, low, arity}
 use Rattle.pattern.specs.Rows.{padded}
 use Rattle.pattern.specs.Automaton.{firstField, secondField, thirdField, Scan, Stop, Whole}
 use Rattle.pattern.specs.declared.Values.{Values}
@@ -24,7 +24,7 @@ pub record Follow (j a b v : ℕ) (r : Values) : Type 0 where
 
 -- the numbers of a state are small
 abbrev pub Bounded : ℕ → State → Type 0
-Bounded m (Letters r i n) = (1 ≤ n) × (n ≤ m) × (i ≤ m) × (r < 8)
+Bounded m (Letters r i n) = (1 ≤ n) × (n ≤ m) × (i ≤ m) × (r < length kinds)
 Bounded m (Field k j a b n) = (1 ≤ n) × (n ≤ m) × (j ≤ 2)
 Bounded m (Digits k j a b v n) = (1 ≤ n) × (n ≤ m) × (v ≤ 65535) × (firstField j a v ≤ 65535) × (j ≤ 2)
 

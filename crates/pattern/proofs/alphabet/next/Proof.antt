@@ -1,13 +1,14 @@
 -- `next`: the search in the list is resumed from row j on, a row a turn.
 -- Assumes nothing.
 use Prim.Native.Nat.{_-_}
-use mathlib.Core.Path.{sym, ap, _∙_}
+use mathlib.Core.Path.{sym, _∙_}
 use mathlib.Core.Logic.{⊎-elim}
 use lib.Dec.{eqb}
+use lib.ListN.{length}
 use borrow.Author.Needs.{needs}
 use borrow.Author.Tests.{eq-eqb, ne-eqb}
 use native.Mathlib.Omega.{arith}
-use Rattle.pattern.specs.Kinds.{kindIn}
+use Rattle.pattern.specs.Kinds.{kinds, kindIn}
 use Rattle.pattern.specs.Automaton.{letterAt, alike, continues, next}
 use Rattle.basics.proofs.Basics.{true-and}
 use Rattle.pattern.proofs.KindLaws.{Sought, search-begin, search-here, search-on, search-end}
@@ -19,7 +20,7 @@ abbrev Inv-loop : tie.InvT-loop
 Inv-loop row read b j₀ j = Sought (continues (kindIn row .word) read b) j
 
 abbrev μ-loop : tie.MeasureT-loop
-μ-loop row read b j₀ j = 8 - j
+μ-loop row read b j₀ j = length kinds - j
 
 returns : tie.Need-returns Inv-loop μ-loop
 unfolding next

@@ -3,10 +3,11 @@
 use Prim.Native.Nat.{_-_}
 use mathlib.Core.Path.{sym, _∙_}
 use lib.Dec.{eqb}
+use lib.ListN.{length}
 use borrow.Author.Needs.{needs}
 use borrow.Author.Tests.{eq-eqb, ne-eqb}
 use native.Mathlib.Omega.{arith}
-use Rattle.pattern.specs.Kinds.{Kind, kindIn, rowOf}
+use Rattle.pattern.specs.Kinds.{Kind, kinds, kindIn, rowOf}
 use Rattle.pattern.proofs.KindLaws.{Sought, search-begin, search-here, search-on, search-end}
 use Rattle.pattern.proofs.Cells.{cell}
 use Rattle.pattern.proofs.alphabet.row_of.Statement.{statement}
@@ -16,7 +17,7 @@ abbrev Inv-loop : tie.InvT-loop
 Inv-loop kind j₀ j = Sought (λ (x : Kind). eqb kind (x .number)) j
 
 abbrev μ-loop : tie.MeasureT-loop
-μ-loop kind j₀ j = 8 - j
+μ-loop kind j₀ j = length kinds - j
 
 returns : tie.Need-returns Inv-loop μ-loop
 unfolding rowOf
