@@ -1,25 +1,25 @@
--- The outcome that is computed and what the verdicts say agree: the scan's meaning gives what the outcome says, and what is said of a text is unique.
+-- The outcome that is computed and what the verdicts say agree: the outcome says what holds of the text, and what is said of a text gives its outcome.
 -- Assumes nothing.
 use Prim.Native.Nat.{ℕ, _≤_, _<_}
 use mathlib.Core.Path.{_≡_, refl, sym, ap, ap₂, subst, _∙_}
-use mathlib.Core.Bool.{cond}
+use mathlib.Core.Bool.{Bool, cond}
 use mathlib.Core.List.{List}
 use lib.Dec.{ltb, eqb}
 use lib.ListN.{length}
-use borrow.Author.Tests.{ltb-true, ltb-false}
+use borrow.Author.Tests.{lt-ltb, le-ltb, ltb-true, ltb-false}
 use native.Mathlib.Omega.{arith}
-use Rattle.pattern.specs.Pattern.{Pattern, Patterns, Spells, Longest, nodes, depth}
+use Rattle.pattern.specs.Pattern.{Pattern, Patterns, Spells, Longest, nodes, depth, preorder}
 use Rattle.pattern.specs.declared.State.the-variants.{Letters}
 use Rattle.pattern.specs.declared.Table.{Table}
 use Rattle.pattern.specs.declared.Reading as declared
 use Rattle.pattern.specs.declared.Verdict.{Verdict}
 use Rattle.pattern.specs.declared.Verdict.the-variants.{Accepted, Long, Misspelt, Crowded, Deep}
 use Rattle.pattern.specs.Automaton.{Scan, Stop, Whole, scan}
-use Rattle.pattern.specs.Answer.{table, noTable, Says, numberOf, placeOf}
+use Rattle.pattern.specs.Answer.{noTable, Says, numberOf, placeOf}
 use Rattle.pattern.specs.Reading.{build, Outcome, Accepts, Refuses, ofTree, ofTrees, ofScan, outcomeOf, numberIn, placeIn, tableOf, ReadGives}
 use Rattle.basics.proofs.Basics.{cases}
-use Rattle.pattern.proofs.Trees.{Reading, reading, build-back, spell-injective}
-use Rattle.pattern.proofs.Answering.{says-unique}
+use Rattle.pattern.proofs.Trees.{Reading, reading, scan-spell, build-back}
+use Rattle.pattern.proofs.Answering.{longest-unique}
 
 -- the text spells the pattern, within the bounds
 pub record Acceptable (s : List ℕ) (p : Pattern) : Type 0 where
@@ -64,19 +64,66 @@ told s =
     (λ h. record { verdict = Long; says = record { long = ltb-true 1024 (length s) h; empty = refl }; number = refl; place = refl; some = omega arith })
     (λ h. scan-told s (scan s (Letters 0 0 1)) (ltb-false 1024 (length s) h) (reading s))
 
--- the verdict that an outcome's number and place name says what the outcome says
-record Answered (s : List ℕ) (o : Outcome) : Type 0 where
-  verdict : Verdict
-  says : Says s verdict (tableOf o)
-  number : numberOf verdict ≡ numberIn o
-  place : placeOf verdict ≡ placeIn o
+-- ── Accepted, refused ──
 
--- there is one
-abbrev answered : (s : List ℕ) (o : Outcome) → Told s o → Answered s o
-answered s (Accepts p) t = record { verdict = Accepted; says = record { short = t .short; pattern = p; spells = t .spells; few = t .few; shallow = t .shallow; tabled = refl }; number = refl; place = refl }
-answered s (Refuses n q) t = record { verdict = t .verdict; says = t .says; number = t .number; place = t .place }
+-- accepted is only the spelling of a pattern within the bounds
+pub accepts-spells : (s : List ℕ) (p : Pattern) → outcomeOf s ≡ Accepts p → Acceptable s p
+accepts-spells s p e = subst (Told s) e (told s)
 
--- and only one: number and place together name a verdict
+-- an outcome that refuses says why
+pub refuses-says : (s : List ℕ) (n q : ℕ) → outcomeOf s ≡ Refuses n q → Refused s n q
+refuses-says s n q e = subst (Told s) e (told s)
+
+-- refusal 2, whenever it applies
+pub refuses-long : (s : List ℕ) → 1024 < length s → outcomeOf s ≡ Refuses 2 0
+unfolding outcomeOf
+refuses-long s h = ap (λ (b : Bool). cond b (Refuses 2 0) (ofScan (scan s (Letters 0 0 1)))) (lt-ltb 1024 (length s) h)
+
+-- else the scan decides
+short-outcome : (s : List ℕ) (x : Scan) → length s ≤ 1024 → scan s (Letters 0 0 1) ≡ x → outcomeOf s ≡ ofScan x
+unfolding outcomeOf
+short-outcome s x l e = ap (λ (b : Bool). cond b (Refuses 2 0) (ofScan (scan s (Letters 0 0 1)))) (le-ltb 1024 (length s) l) ∙ ap ofScan e
+
+-- refusal 3, where 2 does not apply
+pub refuses-misspelt : (s : List ℕ) (n : ℕ) → length s ≤ 1024 → ((p : Pattern) → Spells p s → ⊥) → Longest s n → outcomeOf s ≡ Refuses 3 n
+refuses-misspelt s n l f g = pick (scan s (Letters 0 0 1)) refl (reading s)
+  where
+    pick : (x : Scan) → scan s (Letters 0 0 1) ≡ x → Reading s x → outcomeOf s ≡ Refuses 3 n
+    pick (Stop p) e m = short-outcome s (Stop p) l e ∙ ap (Refuses 3) (longest-unique s p n (m .place) g)
+    pick (Whole hs) e m = absurd (f (m .tree) (m .spells))
+
+-- else the pattern that the text spells
+module _ (s : List ℕ) (p : Pattern) (l : length s ≤ 1024) (a : Spells p s) where
+  tree-outcome : outcomeOf s ≡ ofTree p
+  tree-outcome = short-outcome s (Whole (preorder p)) l (ap (λ (w : List ℕ). scan w (Letters 0 0 1)) (sym (a .spelt)) ∙ scan-spell p (a .formed)) ∙ ap ofTrees (build-back p (a .formed))
+
+  -- refusal 4
+  pub refuses-crowded : 32 < nodes p → outcomeOf s ≡ Refuses 4 0
+  refuses-crowded h = tree-outcome ∙ simp (lt-ltb 32 (nodes p) h)
+
+  -- refusal 5, where 4 does not apply
+  pub refuses-deep : nodes p ≤ 32 → 8 < depth p → outcomeOf s ≡ Refuses 5 0
+  refuses-deep h d = tree-outcome ∙ simp (le-ltb 32 (nodes p) h, lt-ltb 8 (depth p) d)
+
+  -- and no refusal, where none does
+  pub spells-accepts : nodes p ≤ 32 → depth p ≤ 8 → outcomeOf s ≡ Accepts p
+  spells-accepts h d = tree-outcome ∙ simp (le-ltb 32 (nodes p) h, le-ltb 8 (depth p) d)
+
+-- ── The reading ──
+
+-- an answer by the text's outcome
+reading-by : (s : List ℕ) (r : declared.Reading) (o : Outcome) → outcomeOf s ≡ o → numberOf (r .verdict) ≡ numberIn o → placeOf (r .verdict) ≡ placeIn o → r .table ≡ tableOf o → Says s (r .verdict) (r .table) → ReadGives s r
+reading-by s r o e n q t a = record { number = n ∙ ap numberIn (sym e); place = q ∙ ap placeIn (sym e); table = t ∙ ap tableOf (sym e); says = a }
+
+-- what is said of a text fixes the answer
+pub says-reading : (s : List ℕ) (v : Verdict) (t : Table) → Says s v t → ReadGives s (record { verdict = v; table = t })
+says-reading s Accepted t a = reading-by s _ (Accepts (a .pattern)) (spells-accepts s (a .pattern) (a .short) (a .spells) (a .few) (a .shallow)) refl refl (a .tabled) a
+says-reading s Long t a = reading-by s _ (Refuses 2 0) (refuses-long s (a .long)) refl refl (a .empty) a
+says-reading s (Misspelt n) t a = reading-by s _ (Refuses 3 n) (refuses-misspelt s n (a .short) (a .none) (a .place)) refl refl (a .empty) a
+says-reading s Crowded t a = reading-by s _ (Refuses 4 0) (refuses-crowded s (a .pattern) (a .short) (a .spells) (a .many)) refl refl (a .empty) a
+says-reading s Deep t a = reading-by s _ (Refuses 5 0) (refuses-deep s (a .pattern) (a .short) (a .spells) (a .few) (a .deep)) refl refl (a .empty) a
+
+-- number and place together name a verdict
 pub verdict-unique : (v w : Verdict) → numberOf v ≡ numberOf w → placeOf v ≡ placeOf w → v ≡ w
 verdict-unique v w e f = sym (back v) ∙ (ap₂ named e f ∙ back w)
   where
@@ -90,81 +137,14 @@ verdict-unique v w e f = sym (back v) ∙ (ap₂ named e f ∙ back w)
     back Crowded = refl
     back Deep = refl
 
--- ── Accepted ──
-
--- accepted is only the spelling of a pattern within the bounds
-pub accepts-spells : (s : List ℕ) (p : Pattern) → outcomeOf s ≡ Accepts p → Acceptable s p
-accepts-spells s p e = subst (Told s) e (told s)
-
--- and each is
-pub spells-accepts : (s : List ℕ) (p : Pattern) → Acceptable s p → outcomeOf s ≡ Accepts p
-spells-accepts s p a = pick (outcomeOf s) (told s)
-  where
-    pick : (o : Outcome) → Told s o → o ≡ Accepts p
-    pick (Accepts q) t = ap Accepts (spell-injective q p s (t .spells) (a .spells))
-    pick (Refuses n q) t =
-        let u = says-unique s Accepted (t .verdict) (table p) noTable (answered s (Accepts p) a .says) (t .says) in
-        absurd (omega (arith, t .some, t .number, ap numberOf (u .0)))
-
--- ── Refused ──
-
--- an outcome that refuses says why
-pub refuses-says : (s : List ℕ) (n q : ℕ) → outcomeOf s ≡ Refuses n q → Refused s n q
-refuses-says s n q e = subst (Told s) e (told s)
-
--- what a verdict other than accepted says gives the outcome its number and place
-pub says-refuses : (s : List ℕ) (v : Verdict) (t : Table) → Says s v t → 1 ≤ numberOf v → outcomeOf s ≡ Refuses (numberOf v) (placeOf v)
-says-refuses s v t a h = pick (outcomeOf s) (told s)
-  where
-    pick : (o : Outcome) → Told s o → o ≡ Refuses (numberOf v) (placeOf v)
-    pick (Accepts p) r = let u = says-unique s v Accepted t (table p) a (answered s (Accepts p) r .says) in absurd (omega (arith, ap numberOf (u .0)))
-    pick (Refuses n q) r =
-        let u = says-unique s v (r .verdict) t noTable a (r .says) in
-        ap₂ Refuses (sym (ap numberOf (u .0) ∙ r .number)) (sym (ap placeOf (u .0) ∙ r .place))
-
--- refusal 2, whenever it applies
-pub refuses-long : (s : List ℕ) → 1024 < length s → outcomeOf s ≡ Refuses 2 0
-refuses-long s h = says-refuses s Long noTable (record { long = h; empty = refl }) (omega arith)
-
--- refusal 3, where 2 does not apply
-pub refuses-misspelt : (s : List ℕ) (n : ℕ) → length s ≤ 1024 → ((p : Pattern) → Spells p s → ⊥) → Longest s n → outcomeOf s ≡ Refuses 3 n
-refuses-misspelt s n l f g = says-refuses s (Misspelt n) noTable (record { short = l; none = f; place = g; empty = refl }) (omega arith)
-
--- refusal 4, where none before applies
-pub refuses-crowded : (s : List ℕ) (p : Pattern) → length s ≤ 1024 → Spells p s → 32 < nodes p → outcomeOf s ≡ Refuses 4 0
-refuses-crowded s p l a h = says-refuses s Crowded noTable (record { short = l; pattern = p; spells = a; many = h; empty = refl }) (omega arith)
-
--- refusal 5, where none before applies
-pub refuses-deep : (s : List ℕ) (p : Pattern) → length s ≤ 1024 → Spells p s → nodes p ≤ 32 → 8 < depth p → outcomeOf s ≡ Refuses 5 0
-refuses-deep s p l a h d = says-refuses s Deep noTable (record { short = l; pattern = p; spells = a; few = h; deep = d; empty = refl }) (omega arith)
-
--- ── The reading ──
-
--- what is said of a text fixes the answer
-pub says-reading : (s : List ℕ) (r : declared.Reading) → Says s (r .verdict) (r .table) → ReadGives s r
-says-reading s r a =
-    let o = answered s (outcomeOf s) (told s) in
-    let u = says-unique s (r .verdict) (o .verdict) (r .table) (tableOf (outcomeOf s)) a (o .says) in
-    record { number = ap numberOf (u .0) ∙ o .number; place = ap placeOf (u .0) ∙ o .place; table = u .1; says = a }
-
--- one answer only is a text's reading
+-- so a text has one reading only
 pub reading-unique : (s : List ℕ) (r t : declared.Reading) → ReadGives s r → ReadGives s t → r ≡ t
 reading-unique s r t a b =
     let v : r .verdict ≡ t .verdict = verdict-unique (r .verdict) (t .verdict) (a .number ∙ sym (b .number)) (a .place ∙ sym (b .place)) in
     λ i. record { verdict = v i; table = (a .table ∙ sym (b .table)) i }
 
--- a text read as accepted has a pattern, whose table it has
-pub record Opened (s : List ℕ) (t : Table) : Type 0 where
-  pub pattern : Pattern
-  pub accepts : outcomeOf s ≡ Accepts pattern
-  pub tabled : t ≡ table pattern
-
--- so has every text that the reader accepts
-pub verdict-accepts : (s : List ℕ) (r : declared.Reading) → ReadGives s r → r .verdict ≡ Accepted → Opened s (r .table)
-verdict-accepts s r g e =
-    let a = subst (λ (v : Verdict). Says s v (r .table)) e (g .says) in
-    record { pattern = a .pattern; accepts = spells-accepts s (a .pattern) (record { short = a .short; spells = a .spells; few = a .few; shallow = a .shallow }); tabled = a .tabled }
-
--- a text read as refused has its outcome's number and place
-pub verdict-refuses : (s : List ℕ) (r : declared.Reading) → ReadGives s r → 1 ≤ numberOf (r .verdict) → outcomeOf s ≡ Refuses (numberOf (r .verdict)) (placeOf (r .verdict))
-verdict-refuses s r g h = says-refuses s (r .verdict) (r .table) (g .says) h
+-- and what is said of a text fixes the verdict and the table
+pub says-unique : (s : List ℕ) (v w : Verdict) (t u : Table) → Says s v t → Says s w u → (v ≡ w) × (t ≡ u)
+says-unique s v w t u a b =
+    let e = reading-unique s (record { verdict = v; table = t }) (record { verdict = w; table = u }) (says-reading s v t a) (says-reading s w u b) in
+    (ap (λ (r : declared.Reading). r .verdict) e, ap (λ (r : declared.Reading). r .table) e)
