@@ -23,7 +23,7 @@ use Rattle.pattern.specs.Answer.{numberOf, placeOf}
 use Rattle.pattern.specs.Reading as pattern
 use Rattle.pattern.specs.Reading.{Outcome, Accepts, Refuses, outcomeOf, numberIn, placeIn, tableOf}
 use Rattle.pattern.specs.Rows.{rowsOf}
-use Rattle.pattern.specs.declared.Reading.{Reading}
+use Rattle.pattern.specs.declared.Parsed.{Parsed}
 use Rattle.pattern.specs.declared.Table.{Table}
 use Rattle.pattern.proofs.Outcomes.{accepts-spells}
 use Rattle.pattern.proofs.Rows.{table-tree}
@@ -53,7 +53,7 @@ module _ (text log : List ℕ) where
       let e : refusal text log ≡ refused 1 0 = long-log text log h in
       λ i. said (sym e i .number) (sym e i .place) (sym (ap (λ b. cond b (replicate 160 0) (tableOf (outcomeOf text) .rows)) (lt-ltb 61440 (length log) h)) i)
 
-  pub read-short : (r : Reading) (n p : ℕ) → length log ≤ 61440 → pattern.ReadGives text r → n ≡ numberOf (r .verdict) → p ≡ placeOf (r .verdict) → said n p (r .table .rows) ≡ readied text log
+  pub read-short : (r : Parsed) (n p : ℕ) → length log ≤ 61440 → pattern.ReadGives text r → n ≡ numberOf (r .verdict) → p ≡ placeOf (r .verdict) → said n p (r .table .rows) ≡ readied text log
   read-short r n p h g en ep =
       let e = says (outcomeOf text) refl in
       λ i. said ((en ∙ (g .number ∙ ap (λ (x : Refusal). x .number) (sym e))) i) ((ep ∙ (g .place ∙ ap (λ (x : Refusal). x .place) (sym e))) i) (rows i)

@@ -1,4 +1,5 @@
 // The finder: opens on a pattern and a log, gives the next stretch at each step, or fills all of them into lent cells.
+use lines::LOG_MAX;
 use meaning::Filled;
 use nodes::TABLE;
 use pattern::Verdict;
@@ -15,15 +16,24 @@ ghost use Rattle.plan.specs.Plan.{widthOf};
 ghost use Rattle.walk.specs.Filling.{Filling};
 ghost use Rattle.finder.specs.Promises.{readied, opened, listIn, among, handed, lineAfter, refilled, stepped};
 
-// The bytes that a log may have.
-const LOG_MAX: usize = 61440;
+// The answers that a finder keeps, and their cells.
+const KEPT: usize = 64;
+
+const FOUND: usize = 128;
+
+// The words of a row in a log of few lines, and of all rows then; and of all rows in any log.
+const FEW: usize = 128;
+
+const FEW_WORDS: usize = 4096;
+
+const WORDS: usize = 30720;
 
 // What a step keeps: the pattern's table, the next answers found, start then end, how many they are and how many of them were given, the line from
 // which the following ones are sought, and whether none follow. Not live: it only says none.
 pub struct Finder {
     pub live: bool,
     pub rows: [usize; TABLE],
-    pub found: [u32; 128],
+    pub found: [u32; FOUND],
     pub count: usize,
     pub given: usize,
     pub from: u32,
@@ -137,7 +147,7 @@ fn fill_small(
     requires { ⌜ (length (now rows) ≡ 160) × (width ≡ widthOf (now log)) × (width ≤ 128) ⌝ }
     ensures { λ r. ⌜ Filling (onward (tableIn (now (rows .entry)) (now (log .entry))) line) from (now (cells .entry)) r (now (cells .exit)) ⌝ }
 {
-    let mut words = [0u64; 4096];
+    let mut words = [0u64; FEW_WORDS];
     fill_with(rows, log, width, &mut words[..], cells, line, from)
 }
 
@@ -153,7 +163,7 @@ fn fill_large(
     requires { ⌜ (length (now rows) ≡ 160) × (width ≡ widthOf (now log)) × (width ≤ 960) ⌝ }
     ensures { λ r. ⌜ Filling (onward (tableIn (now (rows .entry)) (now (log .entry))) line) from (now (cells .entry)) r (now (cells .exit)) ⌝ }
 {
-    let mut words = [0u64; 30720];
+    let mut words = [0u64; WORDS];
     fill_with(rows, log, width, &mut words[..], cells, line, from)
 }
 
@@ -169,7 +179,7 @@ fn fill_from(rows: &[usize; TABLE], log: &[u8], cells: &mut [u32], line: u32, fr
         };
     }
     let width = plan::width(log);
-    if width <= 128 {
+    if width <= FEW {
         return fill_small(rows, log, width, cells, line, from);
     }
     fill_large(rows, log, width, cells, line, from)
@@ -183,7 +193,7 @@ pub fn open(text: &[u8], log: &[u8]) -> Opened
 {
     let r = read_both(text, log);
     let rows = r.rows;
-    let found = [0u32; 128];
+    let found = [0u32; FOUND];
     Opened {
         number: r.number,
         place: r.place,
@@ -203,7 +213,7 @@ pub fn open(text: &[u8], log: &[u8]) -> Opened
 fn waiting(given: usize, count: usize) -> bool
     ensures { λ r. ⌜ r ≡ among given count ⌝ }
 {
-    if given < count { given < 64 } else { false }
+    if given < count { given < KEPT } else { false }
 }
 
 // The next found answer.
@@ -224,7 +234,7 @@ fn hand(mut f: Finder) -> Stepped
 }
 
 // The line after the start of the last of n found answers.
-fn line_after(line: u32, found: [u32; 128], n: usize) -> u32
+fn line_after(line: u32, found: [u32; FOUND], n: usize) -> u32
     requires { ⌜ (n ≤ 64) × (0 < n → getD found (2 * (n - 1)) 0 < 65536) ⌝ }
     ensures { λ r. ⌜ r ≡ lineAfter line found n ⌝ }
 {

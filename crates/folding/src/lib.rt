@@ -1,9 +1,11 @@
 // A table folded over rows of marks: an `or` of rows alone becomes one row, and so does a `max` of a row, node by node from the last to the first.
 // rows and words are as `seek` has them.
+use nodes::FIRST;
 use nodes::MARKS;
 use nodes::MAX;
 use nodes::NODES;
 use nodes::OR;
+use nodes::SECOND;
 use nodes::TABLE;
 use nodes::next_of;
 use nodes::stop_of;
@@ -21,13 +23,13 @@ fn is_row(rows: &[usize; TABLE], width: usize, free: usize, v: usize) -> bool
     if rows[v] != MARKS {
         return false;
     }
-    if rows[96 + v] != width {
+    if rows[SECOND + v] != width {
         return false;
     }
     if free < width {
         return false;
     }
-    rows[64 + v] <= free - width
+    rows[FIRST + v] <= free - width
 }
 
 // Whether all of v's operands are.
@@ -54,7 +56,7 @@ fn unite_all(rows: &[usize; TABLE], words: &mut [u64], to: usize, width: usize, 
     let stop = stop_of(rows, v);
     let mut u = v + 1;
     while u < stop {
-        row_union::unite(words, to, rows[64 + u], width);
+        row_union::unite(words, to, rows[FIRST + u], width);
         u = next_of(rows, u);
     }
 }
@@ -64,8 +66,8 @@ fn put_row(rows: &mut [usize; TABLE], v: usize, at: usize, width: usize)
     ensures { λ _. ⌜ now (rows .exit) ≡ withLeaf (now (rows .entry)) v at width ⌝ }
 {
     rows[v] = MARKS;
-    rows[64 + v] = at;
-    rows[96 + v] = width;
+    rows[FIRST + v] = at;
+    rows[SECOND + v] = width;
 }
 
 // `or`: the place behind the last row in use.
@@ -102,10 +104,10 @@ fn fold_max(rows: &mut [usize; TABLE], width: usize, free: usize, v: usize)
     if !is_row(rows, width, free, c) {
         return;
     }
-    if rows[64 + v] < 1 {
+    if rows[FIRST + v] < 1 {
         return;
     }
-    let at = rows[64 + c];
+    let at = rows[FIRST + c];
     put_row(rows, v, at, width);
 }
 

@@ -1,5 +1,7 @@
 // The table of one operator over lent lists, for the machine.
 use basics::wide;
+use nodes::FIRST;
+use nodes::SIZE;
 use nodes::TABLE;
 ghost use Prim.Native.Nat.{_≤_};
 ghost use lib.ListN.{length};
@@ -12,8 +14,8 @@ pub(crate) fn table(op: usize, k: usize, ends: &[u32]) -> [usize; TABLE]
 {
     let mut rows = [0usize; TABLE];
     rows[0] = op;
-    rows[32] = ends.len() + 1;
-    rows[64] = k;
+    rows[SIZE] = ends.len() + 1;
+    rows[FIRST] = k;
     let mut from: usize = 0;
     let mut i: usize = 0;
     while i < ends.len() {

@@ -30,7 +30,15 @@ pub const LIST: usize = 17;
 // The nodes that a table has room for.
 pub const NODES: usize = 32;
 
-// The cells of a table: five columns.
+// Where a table's columns begin, the kinds' at cell 0: sizes of the subtrees, first, second and third numbers; and its cells.
+pub const SIZE: usize = 32;
+
+pub const FIRST: usize = 64;
+
+pub const SECOND: usize = 96;
+
+pub const THIRD: usize = 128;
+
 pub const TABLE: usize = 160;
 
 // Whether a pattern's leaves have this kind.
@@ -51,7 +59,7 @@ pub fn next_of(rows: &[usize; TABLE], c: usize) -> usize
     if NODES <= c {
         return NODES;
     }
-    let n = rows[NODES + c];
+    let n = rows[SIZE + c];
     if n == 0 {
         return c + 1;
     }
@@ -66,6 +74,6 @@ pub fn stop_of(rows: &[usize; TABLE], v: usize) -> usize
     if NODES <= v {
         return NODES;
     }
-    let n = rows[NODES + v];
+    let n = rows[SIZE + v];
     if n <= NODES - v { v + n } else { NODES }
 }

@@ -116,11 +116,11 @@ finish-whole k j a c v n r l h =
 -- ── Whole symbols ──
 
 -- the symbols are read whole from their spelling
-abbrev pub Reading : List Symbol → Type 0
-Reading hs = (m : ℕ) → 1 ≤ m → Counts m hs → scan (joined hs) (Letters 0 0 m) ≡ Whole hs
+abbrev pub ScannedBack : List Symbol → Type 0
+ScannedBack hs = (m : ℕ) → 1 ≤ m → Counts m hs → scan (joined hs) (Letters 0 0 m) ≡ Whole hs
 
 -- what follows the last number is read
-tail-forward : (k j a c v n : ℕ) (hs : List Symbol) → low k j ≤ v → fieldCount k ≤ j + 1 → 1 ≤ n → Counts (n + arity k (firstField j a v) - 1) hs → Reading hs
+tail-forward : (k j a c v n : ℕ) (hs : List Symbol) → low k j ≤ v → fieldCount k ≤ j + 1 → 1 ≤ n → Counts (n + arity k (firstField j a v) - 1) hs → ScannedBack hs
     → scan (afters hs) (Digits k j a c v n) ≡ Whole (symbol k (firstField j a v) (secondField j c v) (thirdField j v) ∷ hs)
 unfolding scan
 tail-forward k j a c v n [] r l p m ih = finish-whole k j a c v n r l (omega arith)
@@ -138,7 +138,7 @@ laters-whole : (m : ℕ) (x : Scan) (hs : List Symbol) → x ≡ Whole hs → la
 laters-whole zero x hs e = e
 laters-whole (suc m) x hs e = ap later (laters-whole m x hs e)
 
-module _ (k n : ℕ) (hs : List Symbol) (s : Sound k) (p : 1 ≤ n) (ih : Reading hs) where
+module _ (k n : ℕ) (hs : List Symbol) (s : Sound k) (p : 1 ≤ n) (ih : ScannedBack hs) where
   -- a number that ends a symbol is read
   last-forward : (j a c x : ℕ) → InRange (low k j) (high k j) x → fieldCount k ≡ j + 1 → Counts (n + arity k (firstField j a x) - 1) hs
       → scan (decimal x ++ afters hs) (Field k j a c n) ≡ Whole (symbol k (firstField j a x) (secondField j c x) (thirdField j x) ∷ hs)
@@ -154,7 +154,7 @@ module _ (k n : ℕ) (hs : List Symbol) (s : Sound k) (p : 1 ≤ n) (ih : Readin
   bare-forward : fieldCount k ≡ 0 → Counts (n + arity k 0 - 1) hs → scan (wordOf k ++ afters hs) (Letters 0 0 n) ≡ Whole (symbol k 0 0 0 ∷ hs)
   bare-forward f m = by hs m ih
     where
-      by : (hs : List Symbol) → Counts (n + arity k 0 - 1) hs → Reading hs → scan (wordOf k ++ afters hs) (Letters 0 0 n) ≡ Whole (symbol k 0 0 0 ∷ hs)
+      by : (hs : List Symbol) → Counts (n + arity k 0 - 1) hs → ScannedBack hs → scan (wordOf k ++ afters hs) (Letters 0 0 n) ≡ Whole (symbol k 0 0 0 ∷ hs)
       by [] m ih = absurd (omega (arith, s .some))
       by (g ∷ hs) m ih =
           s .walk n (joined (g ∷ hs)) ∙ laters-whole (length (wordOf k)) (go (scan (joined (g ∷ hs))) (wordEnd k n)) (symbol k 0 0 0 ∷ g ∷ hs)
@@ -182,12 +182,12 @@ module _ (k n : ℕ) (hs : List Symbol) (s : Sound k) (p : 1 ≤ n) (ih : Readin
   kind-forward (x ∷ y ∷ z ∷ u ∷ ns) r m = absurd (omega (arith, few-fields k, ranged-length (kindBy k .ranges) (x ∷ y ∷ z ∷ u ∷ ns) r))
 
 -- every symbol is read
-symbol-forward : (h : Symbol) (n : ℕ) (hs : List Symbol) → Ranged h → 1 ≤ n → Counts (n + rank h - 1) hs → Reading hs → scan (spellSymbol h ++ afters hs) (Letters 0 0 n) ≡ Whole (h ∷ hs)
+symbol-forward : (h : Symbol) (n : ℕ) (hs : List Symbol) → Ranged h → 1 ≤ n → Counts (n + rank h - 1) hs → ScannedBack hs → scan (spellSymbol h ++ afters hs) (Letters 0 0 n) ≡ Whole (h ∷ hs)
 unfolding spellSymbol
 symbol-forward h n hs r p m ih = let o = of h in kind-forward (kindOf h) n hs (o .sound) p ih (numbers h) r m ∙ ap (λ (g : Symbol). Whole (g ∷ hs)) (o .again)
 
 -- the automaton reads the spelling of symbols whole
-pub scan-joined : (hs : List Symbol) → AllRanged hs → Reading hs
+pub scan-joined : (hs : List Symbol) → AllRanged hs → ScannedBack hs
 scan-joined [] r n p c = absurd (omega arith)
 scan-joined (h ∷ hs) r n p c = symbol-forward h n hs (r .0) p (c .1) (scan-joined hs (r .1))
 

@@ -11,14 +11,14 @@ use native.Mathlib.Omega.{arith}
 use Rattle.pattern.specs.Pattern.{Pattern, Patterns, Spells, Longest, nodes, depth, preorder}
 use Rattle.pattern.specs.declared.State.the-variants.{Letters}
 use Rattle.pattern.specs.declared.Table.{Table}
-use Rattle.pattern.specs.declared.Reading as declared
+use Rattle.pattern.specs.declared.Parsed as declared
 use Rattle.pattern.specs.declared.Verdict.{Verdict}
 use Rattle.pattern.specs.declared.Verdict.the-variants.{Accepted, Long, Misspelt, Crowded, Deep}
 use Rattle.pattern.specs.Automaton.{Scan, Stop, Whole, scan}
 use Rattle.pattern.specs.Answer.{noTable, Says, numberOf, placeOf}
 use Rattle.pattern.specs.Reading.{build, Outcome, Accepts, Refuses, ofTree, ofTrees, ofScan, outcomeOf, numberIn, placeIn, tableOf, ReadGives}
 use Rattle.basics.proofs.Basics.{cases}
-use Rattle.pattern.proofs.Trees.{Reading, reading, scan-spell, build-back}
+use Rattle.pattern.proofs.Trees.{ReadAs, reading, scan-spell, build-back}
 use Rattle.pattern.proofs.Answering.{longest-unique}
 
 -- the text spells the pattern, within the bounds
@@ -51,7 +51,7 @@ tree-told s p l a =
     (λ k. record { short = l; spells = a; few = ltb-false 32 (nodes p) h; shallow = ltb-false 8 (depth p) k }))
 
 -- a scan's outcome
-scan-told : (s : List ℕ) (x : Scan) → length s ≤ 1024 → Reading s x → Told s (ofScan x)
+scan-told : (s : List ℕ) (x : Scan) → length s ≤ 1024 → ReadAs s x → Told s (ofScan x)
 scan-told s (Stop p) l m = record { verdict = Misspelt p; says = record { short = l; none = m .none; place = m .place; empty = refl }; number = refl; place = refl; some = omega arith }
 scan-told s (Whole hs) l m =
     subst (λ (ps : Patterns). Told s (ofTrees ps)) (sym (ap build (sym (m .ordered)) ∙ build-back (m .tree) (m .spells .formed))) (tree-told s (m .tree) l (m .spells))
@@ -88,7 +88,7 @@ short-outcome s x l e = ap (λ (b : Bool). cond b (Refuses 2 0) (ofScan (scan s 
 pub refuses-misspelt : (s : List ℕ) (n : ℕ) → length s ≤ 1024 → ((p : Pattern) → Spells p s → ⊥) → Longest s n → outcomeOf s ≡ Refuses 3 n
 refuses-misspelt s n l f g = pick (scan s (Letters 0 0 1)) refl (reading s)
   where
-    pick : (x : Scan) → scan s (Letters 0 0 1) ≡ x → Reading s x → outcomeOf s ≡ Refuses 3 n
+    pick : (x : Scan) → scan s (Letters 0 0 1) ≡ x → ReadAs s x → outcomeOf s ≡ Refuses 3 n
     pick (Stop p) e m = short-outcome s (Stop p) l e ∙ ap (Refuses 3) (longest-unique s p n (m .place) g)
     pick (Whole hs) e m = absurd (f (m .tree) (m .spells))
 
@@ -112,7 +112,7 @@ module _ (s : List ℕ) (p : Pattern) (l : length s ≤ 1024) (a : Spells p s) w
 -- ── The reading ──
 
 -- an answer by the text's outcome
-reading-by : (s : List ℕ) (r : declared.Reading) (o : Outcome) → outcomeOf s ≡ o → numberOf (r .verdict) ≡ numberIn o → placeOf (r .verdict) ≡ placeIn o → r .table ≡ tableOf o → Says s (r .verdict) (r .table) → ReadGives s r
+reading-by : (s : List ℕ) (r : declared.Parsed) (o : Outcome) → outcomeOf s ≡ o → numberOf (r .verdict) ≡ numberIn o → placeOf (r .verdict) ≡ placeIn o → r .table ≡ tableOf o → Says s (r .verdict) (r .table) → ReadGives s r
 reading-by s r o e n q t a = record { number = n ∙ ap numberIn (sym e); place = q ∙ ap placeIn (sym e); table = t ∙ ap tableOf (sym e); says = a }
 
 -- what is said of a text fixes the answer
@@ -138,7 +138,7 @@ verdict-unique v w e f = sym (back v) ∙ (ap₂ named e f ∙ back w)
     back Deep = refl
 
 -- so a text has one reading only
-pub reading-unique : (s : List ℕ) (r t : declared.Reading) → ReadGives s r → ReadGives s t → r ≡ t
+pub reading-unique : (s : List ℕ) (r t : declared.Parsed) → ReadGives s r → ReadGives s t → r ≡ t
 reading-unique s r t a b =
     let v : r .verdict ≡ t .verdict = verdict-unique (r .verdict) (t .verdict) (a .number ∙ sym (b .number)) (a .place ∙ sym (b .place)) in
     λ i. record { verdict = v i; table = (a .table ∙ sym (b .table)) i }
@@ -147,4 +147,4 @@ reading-unique s r t a b =
 pub says-unique : (s : List ℕ) (v w : Verdict) (t u : Table) → Says s v t → Says s w u → (v ≡ w) × (t ≡ u)
 says-unique s v w t u a b =
     let e = reading-unique s (record { verdict = v; table = t }) (record { verdict = w; table = u }) (says-reading s v t a) (says-reading s w u b) in
-    (ap (λ (r : declared.Reading). r .verdict) e, ap (λ (r : declared.Reading). r .table) e)
+    (ap (λ (r : declared.Parsed). r .verdict) e, ap (λ (r : declared.Parsed). r .table) e)

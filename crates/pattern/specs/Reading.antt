@@ -12,7 +12,7 @@ use Rattle.pattern.specs.Automaton.{Scan, Stop, Whole, scan}
 use Rattle.pattern.specs.Answer.{table, noTable, Says, numberOf, placeOf}
 use Rattle.pattern.specs.declared.State.the-variants.{Letters}
 use Rattle.pattern.specs.declared.Table.{Table}
-use Rattle.pattern.specs.declared.Reading.{Reading}
+use Rattle.pattern.specs.declared.Parsed.{Parsed}
 
 -- ── Symbols in preorder to trees: from the last to the first, each symbol takes its operands off the trees made so far ──
 
@@ -76,7 +76,7 @@ tableOf (Accepts p) = table p
 tableOf (Refuses n q) = noTable
 
 -- what `read` promises: the verdict of this number and place, of which there is one (`verdict-unique`), the table, and what they say of the text
-pub record ReadGives (s : List ℕ) (r : Reading) : Type 0 where
+pub record ReadGives (s : List ℕ) (r : Parsed) : Type 0 where
   pub number : numberOf (r .verdict) ≡ numberIn (outcomeOf s)
   pub place : placeOf (r .verdict) ≡ placeIn (outcomeOf s)
   pub table : r .table ≡ tableOf (outcomeOf s)

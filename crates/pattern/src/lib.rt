@@ -35,7 +35,7 @@ pub enum Verdict {
 }
 
 // The verdict, with the table of an accepted pattern; a refused text has the table of no nodes.
-pub struct Reading {
+pub struct Parsed {
     pub verdict: Verdict,
     pub table: Table,
 }
@@ -107,18 +107,18 @@ struct Sizes {
 }
 
 // A refusal, with the table of no nodes.
-fn refused(verdict: Verdict) -> Reading
+fn refused(verdict: Verdict) -> Parsed
     ensures { λ r. ⌜ (r .verdict ≡ verdict) × (r .table ≡ noTable) ⌝ }
 {
     let rows = [0usize; TABLE];
-    Reading {
+    Parsed {
         verdict,
         table: Table { count: 0, rows },
     }
 }
 
 // Reads a pattern: the lowest refusal that applies, else the table of the pattern that the text spells.
-pub fn read(text: &[u8]) -> Reading
+pub fn read(text: &[u8]) -> Parsed
     ensures { λ r. ⌜ ReadGives (now (text .entry)) r ⌝ }
 {
     if PATTERN_MAX < text.len() {
@@ -141,7 +141,7 @@ pub fn read(text: &[u8]) -> Reading
     }
     let size = m.size;
     let table = tabled(r.count, kind, size, first, second, third);
-    Reading {
+    Parsed {
         verdict: Verdict::Accepted,
         table,
     }

@@ -1,22 +1,16 @@
 // The nodes of a whole text: the sizes of their subtrees, the depth, and the table.
 ghost use mathlib.Core.Path.{_≡_};
 ghost use mathlib.Core.List.{_++_};
-ghost use Prim.Native.Nat.{_≤_, max};
+ghost use Prim.Native.Nat.{_≤_};
 ghost use lib.ListN.{length};
 ghost use lib.Seq.{paste};
 ghost use Rattle.pattern.specs.inner.Nodes.{Encodes, Measured};
 use super::Sizes;
 use super::Table;
 use super::alphabet::arity;
+use basics::longer;
 use nodes::NODES;
 use nodes::TABLE;
-
-// The larger of two numbers.
-fn larger(a: usize, b: usize) -> usize
-    ensures { λ r. ⌜ r ≡ max a b ⌝ }
-{
-    if a < b { b } else { a }
-}
 
 // The sizes of the subtrees and the depth, from the last node to the first: a node's operands have theirs by then.
 pub(crate) fn measure(kind: [usize; NODES], first: [usize; NODES], count: usize) -> Sizes
@@ -32,7 +26,7 @@ pub(crate) fn measure(kind: [usize; NODES], first: [usize; NODES], count: usize)
         let mut d = 0;
         let mut m = arity(kind[w], first[w]);
         while 0 < m {
-            d = larger(d, depth[c]);
+            d = longer(d, depth[c]);
             c += size[c];
             m -= 1;
         }
@@ -45,7 +39,7 @@ pub(crate) fn measure(kind: [usize; NODES], first: [usize; NODES], count: usize)
 }
 
 // The array with the column from the place on.
-fn place(rows: &mut [usize; TABLE], at: usize, column: [usize; NODES])
+fn put_column(rows: &mut [usize; TABLE], at: usize, column: [usize; NODES])
     requires { ⌜ (length (now rows) ≡ 160) × ((at ≤ 128) × (length column ≡ 32)) ⌝ }
     ensures { λ r. ⌜ (now (rows .exit) ≡ paste (now (rows .entry)) at column 32) × (length (now (rows .exit)) ≡ 160) ⌝ }
 {
@@ -69,10 +63,10 @@ pub(crate) fn tabled(
     ensures { λ r. ⌜ (r .count ≡ count) × (r .rows ≡ kind ++ (size ++ (first ++ (second ++ third)))) ⌝ }
 {
     let mut rows = [0usize; TABLE];
-    place(&mut rows, 0, kind);
-    place(&mut rows, 32, size);
-    place(&mut rows, 64, first);
-    place(&mut rows, 96, second);
-    place(&mut rows, 128, third);
+    put_column(&mut rows, 0, kind);
+    put_column(&mut rows, 32, size);
+    put_column(&mut rows, 64, first);
+    put_column(&mut rows, 96, second);
+    put_column(&mut rows, 128, third);
     Table { count, rows }
 }

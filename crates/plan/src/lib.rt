@@ -1,11 +1,14 @@
 // The machine's table of a pattern's table, over rows of marks: each leaf becomes the row of its number among the table's different leaves.
 // rows and leaves are as `leaves` has them, words as `marking` has them.
+use leaves::CELLS;
 use leaves::find;
 use leaves::gather;
 use marking::mark;
 use marks::fit;
+use nodes::FIRST;
 use nodes::MARKS;
 use nodes::NODES;
+use nodes::SECOND;
 use nodes::TABLE;
 use nodes::is_leaf;
 ghost use mathlib.Core.Path.{_≡_};
@@ -20,21 +23,21 @@ pub fn width(log: &[u8]) -> usize
 }
 
 // Node v: a leaf becomes the row of its number.
-fn plan_node(rows: &mut [usize; TABLE], leaves: &[usize; 192], n: usize, width: usize, v: usize)
+fn plan_node(rows: &mut [usize; TABLE], leaves: &[usize; CELLS], n: usize, width: usize, v: usize)
     requires { ⌜ (n ≤ 64) × (width ≤ 1024) × (v < 32) ⌝ }
     ensures { λ _. ⌜ now (rows .exit) ≡ planNode (now (leaves .entry)) n width v (now (rows .entry)) ⌝ }
 {
     if !is_leaf(rows[v]) {
         return;
     }
-    let r = find(leaves, n, rows[v], rows[64 + v], rows[96 + v]);
+    let r = find(leaves, n, rows[v], rows[FIRST + v], rows[SECOND + v]);
     rows[v] = MARKS;
-    rows[64 + v] = r * width;
-    rows[96 + v] = width;
+    rows[FIRST + v] = r * width;
+    rows[SECOND + v] = width;
 }
 
 // Each leaf becomes the row of its number among n leaves.
-fn plan(rows: &mut [usize; TABLE], leaves: &[usize; 192], n: usize, width: usize)
+fn plan(rows: &mut [usize; TABLE], leaves: &[usize; CELLS], n: usize, width: usize)
     requires { ⌜ (n ≤ 64) × (width ≤ 1024) ⌝ }
     ensures { λ _. ⌜ now (rows .exit) ≡ planned (now (leaves .entry)) n width (now (rows .entry)) ⌝ }
 {
@@ -51,7 +54,7 @@ pub fn prepare(rows: &[usize; TABLE], log: &[u8], width: usize, words: &mut [u64
     ensures { λ r. ⌜ r ≡ prepared (now (rows .entry)) (now (log .entry)) width (now (words .entry)) .rows ⌝ }
     ensures { λ _. ⌜ now (words .exit) ≡ prepared (now (rows .entry)) (now (log .entry)) width (now (words .entry)) .words ⌝ }
 {
-    let mut leaves = [0usize; 192];
+    let mut leaves = [0usize; CELLS];
     let n = gather(rows, &mut leaves, 0);
     if !fit(n, width, words.len()) {
         return [0usize; TABLE];

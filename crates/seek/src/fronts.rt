@@ -1,5 +1,7 @@
 // Fronts, looks and what is kept of a node: small steps that no call goes out of.
 use crate::Front;
+use crate::NONE;
+use crate::STATE;
 use basics::wide;
 ghost use mathlib.Core.Path.{_≡_};
 ghost use mathlib.Core.Bool.{true, not, _&&_};
@@ -27,8 +29,8 @@ pub(crate) fn none() -> Front
     ensures { λ r. ⌜ r ≡ noneF ⌝ }
 {
     Front {
-        start: 65536,
-        end: 65536,
+        start: NONE,
+        end: NONE,
     }
 }
 
@@ -42,8 +44,8 @@ pub(crate) fn no_look() -> Look
     ensures { λ r. ⌜ r ≡ noLook ⌝ }
 {
     Look {
-        start: 65536,
-        end: 65536,
+        start: NONE,
+        end: NONE,
         good: false,
     }
 }
@@ -52,11 +54,11 @@ pub(crate) fn no_look() -> Look
 pub(crate) fn past(n: u32) -> u32
     ensures { λ r. ⌜ r ≡ pastOf n ⌝ }
 {
-    if n < 65536 { n + 1 } else { 65537 }
+    if n < NONE { n + 1 } else { 65537 }
 }
 
 // Whether what is kept of v serves a seek to t.
-pub(crate) fn serves(st: &[u32; 128], v: usize, t: u32) -> bool
+pub(crate) fn serves(st: &[u32; STATE], v: usize, t: u32) -> bool
     requires { ⌜ v < 32 ⌝ }
     ensures { λ r. ⌜ (r ≡ true → Serves (now (st .entry)) v t) ⌝ }
 {
@@ -69,7 +71,7 @@ pub(crate) fn serves(st: &[u32; 128], v: usize, t: u32) -> bool
     true
 }
 
-pub(crate) fn put_front(st: &mut [u32; 128], v: usize, f: Front, t: u32)
+pub(crate) fn put_front(st: &mut [u32; STATE], v: usize, f: Front, t: u32)
     requires { ⌜ v < 32 ⌝ }
     ensures { λ _. ⌜ now (st .exit) ≡ putAt (now (st .entry)) v f t ⌝ }
 {

@@ -1,8 +1,11 @@
 // Leaves: a row of marks, or a lent list.
 use crate::Front;
+use crate::STATE;
 use crate::fronts::at;
 use crate::fronts::none;
 use basics::wide;
+use nodes::FIRST;
+use nodes::SECOND;
 use nodes::TABLE;
 ghost use mathlib.Core.Path.{_≡_};
 ghost use Prim.Native.Nat.{_<_, _≤_};
@@ -26,7 +29,7 @@ pub(crate) fn seek_row(rows: &[usize; TABLE], words: &[u64], v: usize, t: u32) -
     requires { ⌜ v < 32 ⌝ }
     ensures { λ r. ⌜ RowFound (now (words .entry)) (firstAt (now (rows .entry)) v) (secondAt (now (rows .entry)) v) t r ⌝ }
 {
-    let f = row_search::next(words, rows[64 + v], rows[96 + v], t as usize);
+    let f = row_search::next(words, rows[FIRST + v], rows[SECOND + v], t as usize);
     if f.hit {
         return at_line(f.line);
     }
@@ -79,15 +82,15 @@ fn run(items: &[u32], p: usize, hi: usize, t: u32) -> usize
 pub(crate) fn seek_list(
     rows: &[usize; TABLE],
     items: &[u32],
-    st: &mut [u32; 128],
+    st: &mut [u32; STATE],
     v: usize,
     t: u32,
 ) -> Front
     requires { ⌜ v < 32 ⌝ }
     ensures { λ r. ⌜ ListFound (now (items .entry)) (firstAt (now (rows .entry)) v) (secondAt (now (rows .entry)) v) t (now (st .entry)) r (now (st .exit)) ⌝ }
 {
-    let lo = rows[64 + v];
-    let hi = rows[96 + v];
+    let lo = rows[FIRST + v];
+    let hi = rows[SECOND + v];
     if hi < lo {
         return none();
     }

@@ -13,6 +13,12 @@ use nodes::TABLE;
 ghost use Rattle.seek.specs.Source.{source};
 ghost use Rattle.seek.specs.First.{FirstOf, Ahead};
 
+// The cells of the state.
+pub const STATE: usize = 128;
+
+// The line that stands for none.
+pub const NONE: u32 = 65536;
+
 // The stretch from start to end; none where both are 65,536, one past every line.
 pub struct Front {
     pub start: u32,
@@ -25,7 +31,7 @@ pub fn first(
     rows: &[usize; TABLE],
     words: &[u64],
     items: &[u32],
-    st: &mut [u32; 128],
+    st: &mut [u32; STATE],
     v: usize,
     t: u32,
 ) -> Front
@@ -37,7 +43,7 @@ pub fn first(
     }
     let f = machine::seek(rows, words, items, st, v, t);
     let s = f.start;
-    if 65536 <= s {
+    if NONE <= s {
         return fronts::none();
     }
     if s < t {

@@ -1,6 +1,8 @@
 // The machine: node v brought to its first stretch that starts at or after t. The calls go round: a node seeks its operands, whose numbers are
 // higher than its own.
 use crate::Front;
+use crate::NONE;
+use crate::STATE;
 use crate::fronts::Look;
 use crate::fronts::at;
 use crate::fronts::better;
@@ -17,6 +19,7 @@ use crate::leaves::seek_row;
 use basics::least;
 use basics::most;
 use nodes::AND;
+use nodes::FIRST;
 use nodes::LESS;
 use nodes::LIST;
 use nodes::MARKS;
@@ -38,7 +41,7 @@ fn seek_or(
     rows: &[usize; TABLE],
     words: &[u64],
     items: &[u32],
-    st: &mut [u32; 128],
+    st: &mut [u32; STATE],
     v: usize,
     t: u32,
 ) -> Front
@@ -61,7 +64,7 @@ fn span(
     rows: &[usize; TABLE],
     words: &[u64],
     items: &[u32],
-    st: &mut [u32; 128],
+    st: &mut [u32; STATE],
     v: usize,
     t: u32,
 ) -> Look
@@ -69,12 +72,12 @@ fn span(
     ensures { λ r. ⌜ (kindAt (now (rows .entry)) v ≡ 2 → Looked (source (now (words .entry)) (now (items .entry))) (now (rows .entry)) (now (st .entry)) v t r (now (st .exit))) ⌝ }
 {
     let stop = stop_of(rows, v);
-    let mut s: u32 = 65536;
+    let mut s: u32 = NONE;
     let mut e: u32 = 0;
     let mut c = v + 1;
     while c < stop {
         let f = seek(rows, words, items, st, c, t);
-        if 65536 <= f.start {
+        if NONE <= f.start {
             return no_look();
         }
         s = least(s, f.start);
@@ -89,7 +92,7 @@ fn chain(
     rows: &[usize; TABLE],
     words: &[u64],
     items: &[u32],
-    st: &mut [u32; 128],
+    st: &mut [u32; STATE],
     v: usize,
     t: u32,
 ) -> Look
@@ -100,7 +103,7 @@ fn chain(
     let stop = stop_of(rows, v);
     let a = seek(rows, words, items, st, v + 1, t);
     let s = a.start;
-    if 65536 <= s {
+    if NONE <= s {
         return no_look();
     }
     let mut e = a.end;
@@ -108,7 +111,7 @@ fn chain(
     while c < stop {
         let to = past(e);
         let f = seek(rows, words, items, st, c, to);
-        if 65536 <= f.start {
+        if NONE <= f.start {
             return no_look();
         }
         if breaks(tight, f.start, to) {
@@ -125,7 +128,7 @@ fn passes(
     rows: &[usize; TABLE],
     words: &[u64],
     items: &[u32],
-    st: &mut [u32; 128],
+    st: &mut [u32; STATE],
     v: usize,
     a: Front,
 ) -> bool
@@ -133,7 +136,7 @@ fn passes(
     ensures { λ r. ⌜ Tested (source (now (words .entry)) (now (items .entry))) (now (rows .entry)) (now (st .entry)) v a r (now (st .exit)) ⌝ }
 {
     if rows[v] == MAX {
-        return measure(words, items, a) <= rows[64 + v];
+        return measure(words, items, a) <= rows[FIRST + v];
     }
     let other = next_of(rows, v + 1);
     if stop_of(rows, v) <= other {
@@ -148,7 +151,7 @@ fn filter(
     rows: &[usize; TABLE],
     words: &[u64],
     items: &[u32],
-    st: &mut [u32; 128],
+    st: &mut [u32; STATE],
     v: usize,
     t: u32,
 ) -> Look
@@ -156,7 +159,7 @@ fn filter(
     ensures { λ r. ⌜ (Filters (kindAt (now (rows .entry)) v) → Looked (source (now (words .entry)) (now (items .entry))) (now (rows .entry)) (now (st .entry)) v t r (now (st .exit))) ⌝ }
 {
     let a = seek(rows, words, items, st, v + 1, t);
-    if 65536 <= a.start {
+    if NONE <= a.start {
         return no_look();
     }
     let good = passes(rows, words, items, st, v, a);
@@ -168,7 +171,7 @@ fn look_at(
     rows: &[usize; TABLE],
     words: &[u64],
     items: &[u32],
-    st: &mut [u32; 128],
+    st: &mut [u32; STATE],
     v: usize,
     t: u32,
 ) -> Look
@@ -196,7 +199,7 @@ fn narrow(
     rows: &[usize; TABLE],
     words: &[u64],
     items: &[u32],
-    st: &mut [u32; 128],
+    st: &mut [u32; STATE],
     v: usize,
     t: u32,
 ) -> Front
@@ -204,12 +207,12 @@ fn narrow(
     ensures { λ r. ⌜ (Narrows (kindAt (now (rows .entry)) v) → Sought (source (now (words .entry)) (now (items .entry))) (now (rows .entry)) (now (st .entry)) v t r (now (st .exit))) ⌝ }
 {
     let a = look_at(rows, words, items, st, v, t);
-    if 65536 <= a.start {
+    if NONE <= a.start {
         return none();
     }
     let mut m = a.start;
     let e = a.end;
-    while m < 65536 {
+    while m < NONE {
         let b = look_at(rows, words, items, st, v, m + 1);
         if e < b.end {
             return at(m, e);
@@ -228,7 +231,7 @@ fn skip(
     rows: &[usize; TABLE],
     words: &[u64],
     items: &[u32],
-    st: &mut [u32; 128],
+    st: &mut [u32; STATE],
     v: usize,
     t: u32,
 ) -> Front
@@ -236,10 +239,10 @@ fn skip(
     ensures { λ r. ⌜ (Skips (kindAt (now (rows .entry)) v) → Sought (source (now (words .entry)) (now (items .entry))) (now (rows .entry)) (now (st .entry)) v t r (now (st .exit))) ⌝ }
 {
     let mut from = t;
-    while from < 65536 {
+    while from < NONE {
         let a = look_at(rows, words, items, st, v, from);
         let s = a.start;
-        if 65536 <= s {
+        if NONE <= s {
             return none();
         }
         if a.good {
@@ -258,7 +261,7 @@ fn fresh(
     rows: &[usize; TABLE],
     words: &[u64],
     items: &[u32],
-    st: &mut [u32; 128],
+    st: &mut [u32; STATE],
     v: usize,
     t: u32,
 ) -> Front
@@ -298,7 +301,7 @@ fn renew(
     rows: &[usize; TABLE],
     words: &[u64],
     items: &[u32],
-    st: &mut [u32; 128],
+    st: &mut [u32; STATE],
     v: usize,
     t: u32,
 ) -> Front
@@ -315,7 +318,7 @@ pub(crate) fn seek(
     rows: &[usize; TABLE],
     words: &[u64],
     items: &[u32],
-    st: &mut [u32; 128],
+    st: &mut [u32; STATE],
     v: usize,
     t: u32,
 ) -> Front

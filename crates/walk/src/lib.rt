@@ -1,6 +1,8 @@
 // The walk over all answers of a table's first node: some are passed over, the others written into cells.
 // rows, words, items and the state are as `seek` has them.
 use nodes::TABLE;
+use seek::NONE;
+use seek::STATE;
 ghost use Rattle.seek.specs.Source.{source};
 ghost use Rattle.walk.specs.inner.Walks.{PassedOver, Put};
 ghost use Rattle.walk.specs.Filling.{FillAll, Within};
@@ -16,7 +18,7 @@ fn pass_over(
     rows: &[usize; TABLE],
     words: &[u64],
     items: &[u32],
-    st: &mut [u32; 128],
+    st: &mut [u32; STATE],
     t0: u32,
     n: usize,
 ) -> u32
@@ -27,7 +29,7 @@ fn pass_over(
     while k < n {
         let f = seek::first(rows, words, items, st, 0, t);
         let s = f.start;
-        if 65536 <= s {
+        if NONE <= s {
             return t;
         }
         t = s + 1;
@@ -41,7 +43,7 @@ fn put_all(
     rows: &[usize; TABLE],
     words: &[u64],
     items: &[u32],
-    st: &mut [u32; 128],
+    st: &mut [u32; STATE],
     t0: u32,
     cells: &mut [u32],
 ) -> Walked
@@ -54,7 +56,7 @@ fn put_all(
     while 2 <= room {
         let a = seek::first(rows, words, items, st, 0, t);
         let s = a.start;
-        if 65536 <= s {
+        if NONE <= s {
             return Walked {
                 count: n,
                 more: false,
@@ -67,7 +69,7 @@ fn put_all(
         t = s + 1;
     }
     let b = seek::first(rows, words, items, st, 0, t);
-    if 65536 <= b.start {
+    if NONE <= b.start {
         return Walked {
             count: n,
             more: false,
@@ -92,7 +94,7 @@ pub fn fill(
     ensures { λ r. ⌜ FillAll (source (now (words .entry)) (now (items .entry))) (now (rows .entry)) line from (now (cells .entry)) r (now (cells .exit)) ⌝ }
     ensures { λ r. ⌜ Within (now (cells .entry)) r (now (cells .exit)) ⌝ }
 {
-    let mut st = [0u32; 128];
+    let mut st = [0u32; STATE];
     let t = pass_over(rows, words, items, &mut st, line, from);
     put_all(rows, words, items, &mut st, t, cells)
 }

@@ -32,8 +32,8 @@ loop2-holds c =
     let l = c .before .before .loop in
     (omega arith, omega arith, omega arith, omega arith, λ e. inner-begin (a .t1) (a .t2) (a .count) e (l .v) (l .v - 1) (c .arity .result) (omega arith) (omega arith) (c .arity .ensures))
 
-array-read-larger : tie.Need-array-read-larger Inv-loop2 μ-loop2 Inv-loop μ-loop
-array-read-larger c =
+array-read-longer : tie.Need-array-read-longer Inv-loop2 μ-loop2 Inv-loop μ-loop
+array-read-longer c =
     let a = c .before .before .before .before .before .args in
     let z = c .before .before .before .before .before .pre in
     let l = c .before .before .before .before .loop in
@@ -62,8 +62,8 @@ loop2-again c =
     let z = c .before .before .before .before .before .before .pre in
     let l = c .before .before .before .before .before .loop in
     let i = c .before .before .loop2 in
-    let b = inner-bounds (a .t1) (a .t2) (a .count) z (l .v) (l .v - 1) (i .c + getD (l .size) (i .c) 0) (c .larger .result) (i .m - 1) (inner-turn (a .t1) (a .t2) (a .count) z (l .v) (l .v - 1) (i .c) (i .d) (i .m) (l .size) (l .depth) (l .inv .1 z) (i .inv .4 z) (c .before .loop2-test .taken) (c .larger .result) (c .larger .ensures)) in
-    (b .0, b .1, b .2, b .3, λ e. inner-turn (a .t1) (a .t2) (a .count) e (l .v) (l .v - 1) (i .c) (i .d) (i .m) (l .size) (l .depth) (l .inv .1 e) (i .inv .4 e) (c .before .loop2-test .taken) (c .larger .result) (c .larger .ensures))
+    let b = inner-bounds (a .t1) (a .t2) (a .count) z (l .v) (l .v - 1) (i .c + getD (l .size) (i .c) 0) (c .longer .result) (i .m - 1) (inner-turn (a .t1) (a .t2) (a .count) z (l .v) (l .v - 1) (i .c) (i .d) (i .m) (l .size) (l .depth) (l .inv .1 z) (i .inv .4 z) (c .before .loop2-test .taken) (c .longer .result) (c .longer .ensures)) in
+    (b .0, b .1, b .2, b .3, λ e. inner-turn (a .t1) (a .t2) (a .count) e (l .v) (l .v - 1) (i .c) (i .d) (i .m) (l .size) (l .depth) (l .inv .1 e) (i .inv .4 e) (c .before .loop2-test .taken) (c .longer .result) (c .longer .ensures))
 
 loop-again : tie.Need-loop-again Inv-loop2 μ-loop2 Inv-loop μ-loop
 loop-again c =
@@ -83,4 +83,4 @@ returns c =
 pub measure-spec : {M : Type 1} → statement M
 measure-spec =
     tie.close
-    (tie.spec Inv-loop2 μ-loop2 Inv-loop μ-loop loop-holds (λ c. search needs) (λ c. search needs) (λ c. search needs) (λ c. search needs) (λ c. search needs) (λ c κs. search needs) loop2-holds (λ c. search needs) array-read-larger (λ c κs. search needs) (λ c. search needs) array-read-c add-c (λ c. search needs) (λ c. search needs) loop2-again (λ c. search needs) (λ c. search needs) (λ c. search needs) (λ c. search needs) (λ c. search needs) (λ c. search needs) (λ c. search needs) loop-again (λ c. search needs) returns)
+    (tie.spec Inv-loop2 μ-loop2 Inv-loop μ-loop loop-holds (λ c. search needs) (λ c. search needs) (λ c. search needs) (λ c. search needs) (λ c. search needs) (λ c κs. search needs) loop2-holds (λ c. search needs) array-read-longer (λ c κs. search needs) (λ c. search needs) array-read-c add-c (λ c. search needs) (λ c. search needs) loop2-again (λ c. search needs) (λ c. search needs) (λ c. search needs) (λ c. search needs) (λ c. search needs) (λ c. search needs) (λ c. search needs) loop-again (λ c. search needs) returns)

@@ -6,8 +6,8 @@ use lib.Seq.{paste, paste-zero}
 use borrow.Author.Needs.{needs}
 use native.Mathlib.Omega.{arith}
 use Rattle.pattern.proofs.Columns.{paste-turn, paste-done}
-use Rattle.pattern.proofs.tree.place.Statement.{statement}
-use Rattle.pattern.proofs.tree.place.Tie as tie
+use Rattle.pattern.proofs.tree.put_column.Statement.{statement}
+use Rattle.pattern.proofs.tree.put_column.Tie as tie
 
 abbrev Inv-loop : tie.InvT-loop
 Inv-loop rows₀ at column i₀ rows i = (i ≤ 32) × (rows ≡ paste rows₀ at column i)
@@ -30,7 +30,7 @@ returns c =
     let l = c .before .loop in
     paste-done (l .rows) (a .rows .now) (a .t3) (a .at) (l .i) (l .inv .1) (omega arith) (c .before .before .pre .0) (c .before .before .pre .1 .0) (c .before .before .pre .1 .1)
 
-pub place-spec : {M : Type 1} → statement M
-place-spec =
+pub put-column-spec : {M : Type 1} → statement M
+put-column-spec =
     tie.close
     (tie.spec Inv-loop μ-loop loop-holds (λ c. search needs) (λ c. search needs) (λ c. search needs) (λ c. search needs) (λ c. search needs) (λ c. search needs) (λ c. search needs) loop-again returns)
