@@ -5,7 +5,8 @@ use mathlib.Core.Path.{_≡_, refl, sym, ap, _∙_}
 use mathlib.Core.List.{List, [], _∷_, _++_, map}
 use lib.ListN.{length, getD}
 use native.Mathlib.Omega.{arith}
-use Rattle.pattern.specs.Kinds.{Operands, Fixed, Counted, Kind, kinds, noKind, kindIn, rowOf, kindBy, fieldCount, rangeAt, low, high, operandCount, arity}
+use Rattle.pattern.specs.Kinds.{Operands, Fixed, Counted, Kind, kinds, noKind, kindIn, rowOf, kindBy, fieldCount, low, high, operandCount, arity}
+use Rattle.pattern.specs.inner.Cells.{counted, fixed, cells, table}
 use Rattle.pattern.specs.Automaton.{letterAt}
 use Rattle.pattern.proofs.Fields.{three}
 
@@ -31,26 +32,6 @@ letter-cell r i h l = ap (λ (x : List ℕ). getD x i 0) (row-at spaced kinds r 
     go x (suc i) l = three (λ i. getD (spaced x) (suc i) 0 ≡ letterAt (x .word) (suc i)) refl refl refl i (omega arith)
 
 -- ── Kinds ──
-
--- 1 where the first number says how many operands
-abbrev counted : Operands → ℕ
-counted (Fixed n) = 0
-counted Counted = 1
-
--- how many else
-abbrev fixed : Operands → ℕ
-fixed (Fixed n) = n
-fixed Counted = 0
-
--- a kind in ten cells
-abbrev cells : Kind → List ℕ
-cells x =
-    x .number ∷ length (x .ranges) ∷ counted (x .operands) ∷ fixed (x .operands)
-    ∷ rangeAt (x .ranges) 0 .least ∷ rangeAt (x .ranges) 0 .most ∷ rangeAt (x .ranges) 1 .least ∷ rangeAt (x .ranges) 1 .most ∷ rangeAt (x .ranges) 2 .least ∷ rangeAt (x .ranges) 2 .most ∷ []
-
--- the table, with a row for no kind behind the others
-abbrev pub table : List (List ℕ)
-table = map cells (kinds ++ (noKind ∷ []))
 
 -- the last row stands for whatever comes behind
 behind : (xs : List Kind) (r : ℕ) → getD (xs ++ (noKind ∷ [])) r noKind ≡ getD xs r noKind

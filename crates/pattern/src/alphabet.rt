@@ -1,8 +1,10 @@
 // The kinds of symbols: their words, numbers and operands, read off two tables with a row for each kind.
 ghost use mathlib.Core.Path.{_≡_};
 ghost use Prim.Native.Nat.{_≤_, _<_};
-ghost use lib.ListN.{length};
+ghost use mathlib.Core.List.{[]};
+ghost use lib.ListN.{length, getD};
 ghost use Rattle.pattern.specs.Kinds.{kinds, kindIn, rowOf, fieldCount, low, high, arity};
+ghost use Rattle.pattern.specs.inner.Cells.{table};
 ghost use Rattle.pattern.specs.Automaton.{letterAt, alike, next, live};
 use nodes::AND;
 use nodes::EV;
@@ -93,12 +95,20 @@ pub(crate) fn next(row: usize, read: usize, b: usize) -> usize
     KINDS
 }
 
+// A cell of the kinds' table.
+fn cell(row: usize, column: usize) -> usize
+    requires { ⌜ (row ≤ length kinds) × (column ≤ 9) ⌝ }
+    ensures { λ r. ⌜ r ≡ getD (getD table row []) column 0 ⌝ }
+{
+    KIND[row][column]
+}
+
 // The kind in a row.
 pub(crate) fn kind_in(row: usize) -> usize
     requires { ⌜ row < length kinds ⌝ }
     ensures { λ r. ⌜ r ≡ kindIn row .number ⌝ }
 {
-    KIND[row][0]
+    cell(row, 0)
 }
 
 // The row of a kind; KINDS: of none.
@@ -107,7 +117,7 @@ fn row_of(kind: usize) -> usize
 {
     let mut j = 0;
     while j < KINDS {
-        if KIND[j][0] == kind {
+        if cell(j, 0) == kind {
             return j;
         }
         j += 1;
@@ -120,7 +130,7 @@ pub(crate) fn field_count(kind: usize) -> usize
     ensures { λ r. ⌜ r ≡ fieldCount kind ⌝ }
 {
     let j = row_of(kind);
-    KIND[j][1]
+    cell(j, 1)
 }
 
 // The least number at a place after the word.
@@ -129,7 +139,7 @@ pub(crate) fn low(kind: usize, place: usize) -> usize
     ensures { λ r. ⌜ r ≡ low kind place ⌝ }
 {
     let j = row_of(kind);
-    KIND[j][4 + 2 * place]
+    cell(j, 4 + 2 * place)
 }
 
 // The greatest number at a place after the word.
@@ -138,7 +148,7 @@ fn high(kind: usize, place: usize) -> usize
     ensures { λ r. ⌜ r ≡ high kind place ⌝ }
 {
     let j = row_of(kind);
-    KIND[j][5 + 2 * place]
+    cell(j, 5 + 2 * place)
 }
 
 // The number of operands.
@@ -146,7 +156,7 @@ pub(crate) fn arity(kind: usize, first: usize) -> usize
     ensures { λ r. ⌜ r ≡ arity kind first ⌝ }
 {
     let j = row_of(kind);
-    if KIND[j][2] == 1 { first } else { KIND[j][3] }
+    if cell(j, 2) == 1 { first } else { cell(j, 3) }
 }
 
 // Digits of value v are the start of a number of the field.

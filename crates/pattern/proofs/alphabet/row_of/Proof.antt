@@ -24,13 +24,13 @@ unfolding rowOf
 returns c =
     let k = c .before .before .before .before .args .kind in
     let j = c .before .before .before .loop .j in
-    (search-here (λ (x : Kind). eqb k (x .number)) j (c .before .before .before .loop .inv) (omega arith) (eq-eqb k (kindIn j .number) (sym (c .if1 .taken) ∙ cell j 0 (omega arith))), omega arith)
+    (search-here (λ (x : Kind). eqb k (x .number)) j (c .before .before .before .loop .inv) (omega arith) (eq-eqb k (kindIn j .number) (sym (c .if1 .taken) ∙ (c .before .cell .ensures ∙ cell j 0 (omega arith)))), omega arith)
 
 loop-again : tie.Need-loop-again Inv-loop μ-loop
 loop-again c =
     let k = c .before .before .before .before .args .kind in
     let j = c .before .before .before .loop .j in
-    search-on (λ (x : Kind). eqb k (x .number)) j (c .before .before .before .loop .inv) (omega arith) (ne-eqb k (kindIn j .number) (λ e. c .if1 .left (cell j 0 (omega arith) ∙ sym e)))
+    search-on (λ (x : Kind). eqb k (x .number)) j (c .before .before .before .loop .inv) (omega arith) (ne-eqb k (kindIn j .number) (λ e. c .if1 .left (c .before .cell .ensures ∙ (cell j 0 (omega arith) ∙ sym e))))
 
 returns-2 : tie.Need-returns-2 Inv-loop μ-loop
 unfolding rowOf
@@ -39,4 +39,4 @@ returns-2 c = (search-end (λ (x : Kind). eqb (c .before .before .args .kind) (x
 pub row-of-spec : {M : Type 1} → statement M
 row-of-spec =
     tie.close
-    (tie.spec Inv-loop μ-loop (λ c. search-begin (λ (x : Kind). eqb (c .args .kind) (x .number))) (λ c. search needs) (λ c. search needs) (λ c. search needs) returns (λ c. search needs) (λ c. search needs) loop-again returns-2)
+    (tie.spec Inv-loop μ-loop (λ c. search-begin (λ (x : Kind). eqb (c .args .kind) (x .number))) (λ c κs. (omega arith, omega arith)) returns (λ c. search needs) (λ c. search needs) loop-again returns-2)
