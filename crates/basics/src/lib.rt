@@ -38,9 +38,10 @@ pub fn longer(a: usize, b: usize) -> usize
     if b <= a { a } else { b }
 }
 
-// The first n bytes; all where they are fewer.
+// The first n bytes, where they stand; all where they are fewer.
 pub fn first(s: &[u8], n: usize) -> &[u8]
     ensures { λ r. ⌜ now r ≡ take n (now (s .entry)) ⌝ }
+    ensures { λ r. ⌜ (r .ptr .0 ≡ s .entry .ptr .0) × (r .ptr .1 ≡ s .entry .ptr .1) ⌝ }
 {
     if n < s.len() { &s[..n] } else { s }
 }

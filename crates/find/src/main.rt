@@ -89,10 +89,15 @@ fn print(t: Intake, pattern: &[u8], log: &[u8])
     put(t, pattern, log, first(&out, n));
 }
 
+// The bytes kept of pattern and log: one more than are accepted.
+const PATTERN_KEPT: usize = 1025;
+
+const LOG_KEPT: usize = 61441;
+
 // Keeps one byte more of pattern and log than are accepted, so that longer ones are refused as if they were whole.
 fn main() {
-    let mut pattern = [0u8; 1025];
-    let mut log = [0u8; 61441];
+    let mut pattern = [0u8; PATTERN_KEPT];
+    let mut log = [0u8; LOG_KEPT];
     match read_all(&mut pattern, &mut log) {
         Input::Read(t) => {
             print(t, &pattern, &log);

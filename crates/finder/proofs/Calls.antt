@@ -40,7 +40,8 @@ use Rattle.plan.specs.Plan.{widthOf, prepared}
 use Rattle.plan.proofs.Planning.{room-enough, prepared-lists, prepared-good}
 use Rattle.finder.specs.declared.Finder.{Finder}
 use Rattle.finder.specs.declared.Readied.{Readied}
-use Rattle.finder.specs.Promises.{rowsIn, readied, listIn, among, waits, handed, none, offered, lineAfter, refilled, stepOver}
+use Rattle.finder.specs.Promises.{rowsIn, listIn, among, waits, handed, none, offered, lineAfter, refilled, stepOver}
+use Rattle.finder.specs.inner.Readied.{readied}
 
 -- ── Reading both ──
 

@@ -14,7 +14,6 @@ use Rattle.finder.specs.declared.Finder.{Finder}
 use Rattle.finder.specs.declared.Answer.the-variants.{None, Stretch}
 use Rattle.finder.specs.declared.Opened.{Opened}
 use Rattle.finder.specs.declared.Stepped.{Stepped}
-use Rattle.finder.specs.declared.Readied.{Readied}
 
 -- ── Opening ──
 
@@ -81,9 +80,3 @@ stepOver l f = cond (f .live) (cond (waits f || f .used) (offered f) (offered (r
 -- with any log, for every finder
 abbrev pub stepped : Finder → List ℕ → Stepped
 stepped f log = stepOver (listIn (f .rows) log) f
-
--- ── On the way ──
-
--- the refusal and the table
-abbrev pub readied : List ℕ → List ℕ → Readied
-readied pattern log = record { number = refusal pattern log .number; place = refusal pattern log .place; rows = rowsIn pattern log }

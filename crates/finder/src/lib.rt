@@ -14,7 +14,8 @@ ghost use Rattle.meaning.specs.Meaning.{tableIn};
 ghost use Rattle.meaning.specs.Finding.{listOf, filling};
 ghost use Rattle.plan.specs.Plan.{widthOf};
 ghost use Rattle.walk.specs.Filling.{Filling};
-ghost use Rattle.finder.specs.Promises.{readied, opened, listIn, among, handed, lineAfter, refilled, stepped};
+ghost use Rattle.finder.specs.inner.Readied.{readied};
+ghost use Rattle.finder.specs.Promises.{opened, listIn, among, handed, lineAfter, refilled, stepped};
 
 // The answers that a finder keeps, and their cells.
 const KEPT: usize = 64;

@@ -10,20 +10,20 @@ use borrow.Author.Tests.{eqb-true}
 use native.Mathlib.Omega.{arith}
 use Rattle.stretches.specs.Stretch.{Stretch, Op, Or, And, Row, Then, Keep, lengthOf, answers}
 use Rattle.stretches.specs.Front.{Front, None, At, nth}
-use Rattle.stretches.specs.Taking as algorithm
 use Rattle.stretches.specs.Taking.{begun, taking}
+use Rattle.stretches.specs.Operators.{operatorOf, apply}
+use Rattle.stretches.specs.Filling.{pairsIn, written}
+use Rattle.stretches.specs.Lent.{listsOf}
+use Rattle.stretches.specs.Taking as algorithm
 use Rattle.stretches.proofs.Steps.{rising-length}
 use Rattle.stretches.proofs.Taking.{nth-in, or-taken, and-taken}
 use Rattle.meaning.specs.declared.Filled.{Filled}
-use Rattle.stretches.specs.Operators.{operatorOf, apply}
-use Rattle.stretches.specs.Filling.{pairsIn, written}
 use Rattle.meaning.specs.Finding.{filling}
-use Rattle.stretches.specs.Lent.{listsOf}
 use Rattle.stretches.proofs.Fine.{AllFine, fine-answers}
 use Rattle.meaning.proofs.Bounds.{sized, few-written}
 use Rattle.meaning.specs.Refusals.{miscalled, miscalledTaking, miscut, disordered, lowest, listsRefusal, takingRefusal}
 use Rattle.taking.specs.declared.Taken.{Taken}
-use Rattle.lists.specs.Filling.{listAnswers, walked, notFilled, fillResult}
+use Rattle.lists.specs.Filling.{listAnswers, wrote, notFilled, fillResult}
 use Rattle.taking.specs.Taking.{takenBy, takenOf, given, notTaken, takeResult}
 use Rattle.lent.proofs.Ordering.{fine-lists}
 use Rattle.lent.proofs.Accepting.{accepted}
@@ -63,7 +63,7 @@ pub lists-small : (op k : ℕ) (items ends cells : List ℕ) (f : ℕ) (r : Fill
 unfolding fillResult listsRefusal
 lists-small op k items ends cells f r e = go (eqb (lowest (miscalled op k ends) items ends) 0) refl e
   where
-    go : (b : Bool) → eqb (lowest (miscalled op k ends) items ends) 0 ≡ b → r ≡ cond b (walked (listAnswers op k items ends) cells f) (notFilled (lowest (miscalled op k ends) items ends))
+    go : (b : Bool) → eqb (lowest (miscalled op k ends) items ends) 0 ≡ b → r ≡ cond b (wrote (listAnswers op k items ends) cells f) (notFilled (lowest (miscalled op k ends) items ends))
         → (r .number ≤ 9) × (r .place ≤ 1024) × (r .count ≤ 65536)
     go true i x =
         let a = accepted (miscalled op k ends) items ends (eqb-true (lowest (miscalled op k ends) items ends) 0 i) in (

@@ -11,7 +11,8 @@ use lib.Dec.{leb, ltb, eqb}
 use borrow.Author.Tests.{leb-true, ltb-true, eqb-true, le-leb}
 use Rattle.basics.proofs.Basics.{cases, and-true, le-or-lt}
 use Rattle.stretches.specs.Stretch.{Stretch, st, marks, anyOf, keep, keepFirst, atMost, Or, answers}
-use Rattle.stretches.specs.Table.{kindAt, firstAt, secondAt, nextOf, stopOf, operandsUp, operandNumbers, operandsFrom}
+use Rattle.stretches.specs.Table.{kindAt, firstAt, secondAt, nextOf, stopOf, operandsUp, operandNumbers}
+use Rattle.stretches.specs.inner.Operands.{operandsFrom}
 use Rattle.stretches.proofs.Marks.{marks-clear, keep-marks}
 use Rattle.stretches.proofs.Table.{next-past, stop-most, up-more, up-end, operands-lists, from-more}
 use Rattle.stretches.proofs.Union.{either-most, or-marks}

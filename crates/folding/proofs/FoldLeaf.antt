@@ -13,7 +13,8 @@ use borrow.Author.Tests.{eqb-true}
 use Rattle.basics.proofs.Basics.{cases, eq-or-ne}
 use Rattle.stretches.specs.Stretch.{Stretch, Fine, marks}
 use Rattle.stretches.specs.Operators.{operatorOf, apply}
-use Rattle.stretches.specs.Table.{kindAt, sizeAt, firstAt, secondAt, Given, operandsOf, listAt}
+use Rattle.stretches.specs.Table.{kindAt, sizeAt, firstAt, secondAt, Given, listAt}
+use Rattle.stretches.specs.inner.Operands.{operandsOf}
 use Rattle.stretches.proofs.Table.{list-node, same-lists}
 use Rattle.marks.specs.Row.{row}
 use Rattle.seek.specs.Source.{source, measured, lent, ownList, given, listOver, Good}

@@ -11,8 +11,12 @@ ghost use mathlib.Core.Path.{_≡_};
 ghost use Prim.Native.Nat.{_≤_, _<_};
 ghost use Rattle.leaves.specs.Leaves.{held, isLeaf, numberIn, are, added, withNode, gathered};
 
-// The leaves that there is room for, and their cells.
+// The leaves that there is room for; where the columns of their first and second numbers begin; and their cells.
 pub const LEAVES: usize = 64;
+
+pub const FIRSTS: usize = 64;
+
+pub const SECONDS: usize = 128;
 
 pub const CELLS: usize = 192;
 
@@ -31,10 +35,10 @@ fn has_numbers(leaves: &[usize; CELLS], r: usize, kind: usize, first: usize, sec
     if leaves[r] != kind {
         return false;
     }
-    if leaves[64 + r] != first {
+    if leaves[FIRSTS + r] != first {
         return false;
     }
-    leaves[128 + r] == second
+    leaves[SECONDS + r] == second
 }
 
 // The number of the first of n leaves that has these numbers; n where none has. More than 64 leaves are taken for 64.
@@ -64,8 +68,8 @@ fn add(leaves: &mut [usize; CELLS], n: usize, kind: usize, first: usize, second:
         return n;
     }
     leaves[n] = kind;
-    leaves[64 + n] = first;
-    leaves[128 + n] = second;
+    leaves[FIRSTS + n] = first;
+    leaves[SECONDS + n] = second;
     n + 1
 }
 

@@ -9,9 +9,9 @@ use lib.ListN.{length, getD}
 use lib.Dec.{leb, eqb}
 use borrow.Author.Tests.{eq-eqb, ne-eqb, eqb-true, leb-true, not-false}
 use Rattle.stretches.specs.Stretch.{Stretch}
-use Rattle.basics.proofs.Basics.{cases, and-true, or-false}
 use Rattle.stretches.specs.Filling.{filled}
 use Rattle.stretches.specs.Lent.{listsOf}
+use Rattle.basics.proofs.Basics.{cases, and-true, or-false}
 use Rattle.stretches.proofs.Fine.{AllFine}
 use Rattle.meaning.specs.Refusals.{takesLists, takesBound, miscalled, listsRefusal}
 use Rattle.stretches.proofs.Steps.{onward-all}
@@ -19,7 +19,7 @@ use Rattle.walk.specs.declared.Walked.{Walked}
 use Rattle.seek.specs.Source.{source, listOver}
 use Rattle.walk.specs.Filling.{Filling, FillAll}
 use Rattle.seek.proofs.Nodes.{fine}
-use Rattle.lists.specs.Filling.{listAnswers, walked, notFilled, fillResult, fillCells}
+use Rattle.lists.specs.Filling.{listAnswers, wrote, notFilled, fillResult, fillCells}
 use Rattle.lists.specs.inner.Table.{Laid}
 use Rattle.lent.proofs.Ordering.{fine-lists}
 use Rattle.lent.proofs.Cutting.{ends-inside}
@@ -38,7 +38,7 @@ module _ (op k : ℕ) (items ends cells : List ℕ) (f n : ℕ) (is : n ≡ list
 
     pub fill-refused : notFilled n ≡ fillResult op k items ends cells f
     unfolding fillResult
-    fill-refused = ap notFilled is ∙ sym (ap (λ b. cond b (walked (listAnswers op k items ends) cells f) (notFilled (listsRefusal op k items ends))) off)
+    fill-refused = ap notFilled is ∙ sym (ap (λ b. cond b (wrote (listAnswers op k items ends) cells f) (notFilled (listsRefusal op k items ends))) off)
 
     pub fill-kept : cells ≡ fillCells op k items ends cells f
     unfolding fillCells
@@ -84,7 +84,7 @@ module _ (op k : ℕ) (items ends cells : List ℕ) (f n : ℕ) (is : n ≡ list
       unfolding fillResult
       fill-walked =
           ap₂ (λ c m. record { number = 0; place = 0; count = c; more = m }) (done .count) (done .more)
-          ∙ sym (ap (λ b. cond b (walked (listAnswers op k items ends) cells f) (notFilled (listsRefusal op k items ends))) on)
+          ∙ sym (ap (λ b. cond b (wrote (listAnswers op k items ends) cells f) (notFilled (listsRefusal op k items ends))) on)
 
       pub fill-wrote : cells′ ≡ fillCells op k items ends cells f
       unfolding fillCells

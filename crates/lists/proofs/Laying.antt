@@ -12,8 +12,10 @@ use lib.Dec.{eqb}
 use borrow.Author.Tests.{le-leb, ne-eqb}
 use Rattle.stretches.specs.Stretch.{Stretch, Fine, marks, lengthOf}
 use Rattle.stretches.specs.Operators.{operatorOf, apply}
-use Rattle.stretches.specs.Lent.{part, listsFrom, listsOf, startOf}
-use Rattle.stretches.specs.Table.{firstAt, secondAt, nextOf, stopOf, operandsFrom, operandsOf}
+use Rattle.stretches.specs.Lent.{part, listsFrom, listsOf}
+use Rattle.stretches.specs.inner.Starts.{startOf}
+use Rattle.stretches.specs.Table.{firstAt, secondAt, nextOf, stopOf}
+use Rattle.stretches.specs.inner.Operands.{operandsFrom, operandsOf}
 use Rattle.stretches.proofs.Fine.{AllFine, fine-none}
 use Rattle.stretches.proofs.Lent.{lists-at}
 use Rattle.stretches.proofs.Table.{next-is, stop-is, from-more, from-end, list-node}

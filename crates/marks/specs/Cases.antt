@@ -4,7 +4,7 @@ use mathlib.Core.Bool.{true, false}
 use mathlib.Core.List.{[], _∷_, _++_}
 use lib.ListN.{replicate}
 use Rattle.stretches.specs.Stretch.{st, marks}
-use Rattle.marks.specs.Row.{bits, number, flags, row, changed, trues, marked, packed, withRow, united}
+use Rattle.marks.specs.Row.{bits, number, flags, row, changed, trues, markCount, packed, withRow, united}
 
 -- the lowest bit first
 ex-bits : bits 4 5 ≡ true ∷ false ∷ true ∷ false ∷ []
@@ -36,8 +36,8 @@ unfolding changed
 ex-past = refl
 
 -- lines 2 and 64
-ex-count : marked (row (9 ∷ 5 ∷ 1 ∷ []) 1 2) 1 64 ≡ 2
-unfolding marked trues row flags bits
+ex-count : markCount (row (9 ∷ 5 ∷ 1 ∷ []) 1 2) 1 64 ≡ 2
+unfolding markCount trues row flags bits
 ex-count = refl
 
 -- lines 1 and 64, in two words and in one

@@ -25,7 +25,7 @@ flags (w ∷ ws) = bits 64 w ++ flags ws
 abbrev pub lies : ℕ → ℕ → ℕ → Bool
 lies len at width = leb (at + width) len && ltb (64 * width) (2 ^ 64)
 
--- n rows of w words each fit into so many words; a row of more than 1,024 words, the lines of 65,536, never does
+-- n rows of w words each fit into so many words; a row of more than 1,024 words (65,536 lines) never does
 abbrev pub fit : ℕ → ℕ → ℕ → Bool
 fit n w len = leb w 1024 && leb (n * w) len
 
@@ -51,8 +51,8 @@ trues [] = zero
 trues (b ∷ bs) = cond b (suc (trues bs)) (trues bs)
 
 -- how many lines from s through e are marked
-unfoldable pub marked : List Bool → ℕ → ℕ → ℕ
-marked bs s e = trues (take (suc e - s) (drop s bs))
+unfoldable pub markCount : List Bool → ℕ → ℕ → ℕ
+markCount bs s e = trues (take (suc e - s) (drop s bs))
 
 -- w words whose bits are these lines, clear past the last; lines past 64 × w are dropped
 unfoldable pub packed : ℕ → List Bool → List ℕ

@@ -17,11 +17,14 @@ pub fn inside(len: usize, at: usize, width: usize) -> bool
     width < 0x400_0000_0000_0000
 }
 
+// The words that a row of a log's lines may have.
+pub const WIDEST: usize = 1024;
+
 // Whether n rows of `width` words each, at most 1,024, fit into so many words.
 pub fn fit(n: usize, width: usize, len: usize) -> bool
     ensures { λ r. ⌜ r ≡ fit n width len ⌝ }
 {
-    if 1024 < width {
+    if WIDEST < width {
         return false;
     }
     if width == 0 {

@@ -59,23 +59,23 @@ accepted-list pattern log p h e =
     ap₂ (λ (x : Refusal) (o : Outcome). cond (eqb (x .number) 0) (answersBy o log) []) (good-pattern pattern log p h e) e
 
 -- what acceptance says
-pub record Accepted (pattern log : List ℕ) : Type 0 where
+pub record AcceptedPattern (pattern log : List ℕ) : Type 0 where
   pub brief : length log ≤ 61440
   pub tree : Pattern
   pub reads : outcomeOf pattern ≡ Accepts tree
 
-pub accepted-number : (pattern log : List ℕ) → refusal pattern log .number ≡ 0 → Accepted pattern log
+pub accepted-number : (pattern log : List ℕ) → refusal pattern log .number ≡ 0 → AcceptedPattern pattern log
 accepted-number pattern log e = go (ltb 61440 (length log)) refl (outcomeOf pattern) refl
   where
     number : (r : Refusal) → refusal pattern log ≡ r → 0 ≡ r .number
     number r k = sym e ∙ ap (λ (x : Refusal). x .number) k
 
-    go : (b : Bool) → ltb 61440 (length log) ≡ b → (o : Outcome) → outcomeOf pattern ≡ o → Accepted pattern log
+    go : (b : Bool) → ltb 61440 (length log) ≡ b → (o : Outcome) → outcomeOf pattern ≡ o → AcceptedPattern pattern log
     go true k o j = absurd (omega (arith, number (refused 1 0) (long-log pattern log (ltb-true 61440 (length log) k))))
     go false k (Accepts p) j = record { brief = ltb-false 61440 (length log) k; tree = p; reads = j }
     go false k (Refuses n q) j = absurd (omega (arith, number (refused n q) (bad-pattern pattern log n q (ltb-false 61440 (length log) k) j), refuses-says pattern n q j .some))
 
-pub accepted-by : (pattern log : List ℕ) → refusal pattern log ≡ accepted → Accepted pattern log
+pub accepted-by : (pattern log : List ℕ) → refusal pattern log ≡ accepted → AcceptedPattern pattern log
 accepted-by pattern log e = accepted-number pattern log (ap (λ (x : Refusal). x .number) e)
 
 -- the undamaged run, for the list of an accepted pattern and log: the run alone is accepted, and has the part of the list that lies within it

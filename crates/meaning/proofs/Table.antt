@@ -5,7 +5,8 @@ use mathlib.Core.List.{List, _∷_, map}
 use native.Mathlib.Omega.{arith}
 use Rattle.stretches.specs.Stretch.{Stretch, marks}
 use Rattle.stretches.specs.Operators.{operatorOf, apply}
-use Rattle.stretches.specs.Table.{sizeAt, secondAt, nextOf, stopOf, listAt, operandsFrom, operandsOf}
+use Rattle.stretches.specs.Table.{sizeAt, secondAt, nextOf, stopOf, listAt}
+use Rattle.stretches.specs.inner.Operands.{operandsFrom, operandsOf}
 use Rattle.stretches.proofs.Table.{next-is, stop-is, from-more, from-end, list-node}
 use Rattle.records.specs.declared.Line.{Line}
 use Rattle.records.specs.Line.{says}

@@ -7,9 +7,9 @@ use mathlib.Core.List.{List, _++_, map, map-append}
 use lib.ListN.{length, length-map}
 use native.Mathlib.Omega.{arith}
 use Rattle.stretches.specs.Stretch.{Stretch, st, Fine, marks}
-use Rattle.stretches.specs.Stretch as op
 use Rattle.stretches.specs.Run.{inRun}
 use Rattle.stretches.specs.Operators.{apply}
+use Rattle.stretches.specs.Stretch as op
 use Rattle.stretches.proofs.Fine.{AllFine, all-none, all-more, fine-apply, fine-marks}
 use Rattle.stretches.proofs.Window.{Window, Windows, or-alike, and-alike, row-alike, then-alike, less-alike, max-alike, local}
 use Rattle.stretches.proofs.InRun.{window-cut}

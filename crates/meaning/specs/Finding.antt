@@ -6,10 +6,10 @@ use mathlib.Core.List.{List, []}
 use lib.ListN.{length}
 use lib.Dec.{eqb}
 use Rattle.stretches.specs.Stretch.{Stretch}
+use Rattle.stretches.specs.Filling.{written, moreAfter}
 use Rattle.pattern.specs.Reading.{Outcome, Accepts, Refuses, outcomeOf}
 use Rattle.meaning.specs.Meaning.{answersIn}
 use Rattle.meaning.specs.Refusals.{refusal}
-use Rattle.stretches.specs.Filling.{written, moreAfter}
 use Rattle.meaning.specs.declared.Filled.{Filled}
 
 -- the answers of what a text was read as

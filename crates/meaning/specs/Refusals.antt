@@ -7,10 +7,10 @@ use mathlib.Core.List.{List, [], _∷_}
 use lib.ListN.{length}
 use lib.Dec.{leb, ltb, eqb}
 use Rattle.stretches.specs.Stretch.{Stretch}
+use Rattle.stretches.specs.Lent.{listsOf}
 use Rattle.lines.specs.Lines.{lines}
 use Rattle.pattern.specs.Reading.{Outcome, Accepts, Refuses, outcomeOf}
 use Rattle.meaning.specs.Meaning.{answersIn}
-use Rattle.stretches.specs.Lent.{listsOf}
 
 pub record Refusal : Type 0 where
   pub number : ℕ

@@ -1,4 +1,4 @@
-// Where a node's operands stand in a table of 32 nodes: the first behind its operator, each next one behind the subtree of the one before.
+// The kinds of nodes by number, the columns of a table of 32 nodes, and where a node's operands stand in it: the first behind its operator, each next one behind the subtree of the one before.
 // rows: the table, in five columns of 32; the second has the sizes of the subtrees.
 ghost use mathlib.Core.Path.{_≡_};
 ghost use Prim.Native.Nat.{_<_, _≤_};

@@ -18,6 +18,11 @@ use nodes::THEN;
 // The number of kinds.
 pub(crate) const KINDS: usize = 8;
 
+// The rows and columns of the table of kinds.
+const ROWS: usize = 9;
+
+const COLUMNS: usize = 10;
+
 // The words, filled up with commas.
 const WORD: [[u8; 4]; KINDS] = [
     [b'e', b'v', b',', b','],
@@ -32,7 +37,7 @@ const WORD: [[u8; 4]; KINDS] = [
 
 // Number; numbers after the word; operands: 1 where the first number says how many, else 0, and how many then;
 // the least and the greatest value of each number. The last row is of no kind.
-const KIND: [[usize; 10]; 9] = [
+const KIND: [[usize; COLUMNS]; ROWS] = [
     [EV, 2, 0, 0, 1, 255, 0, 99, 0, 0],
     [FR, 2, 0, 0, 0, 10, 0, 99, 0, 0],
     [OR, 1, 1, 0, 2, 31, 0, 0, 0, 0],
@@ -134,21 +139,21 @@ pub(crate) fn field_count(kind: usize) -> usize
 }
 
 // The least number at a place after the word.
-pub(crate) fn low(kind: usize, place: usize) -> usize
-    requires { ⌜ place ≤ 2 ⌝ }
-    ensures { λ r. ⌜ r ≡ low kind place ⌝ }
+pub(crate) fn low(kind: usize, field: usize) -> usize
+    requires { ⌜ field ≤ 2 ⌝ }
+    ensures { λ r. ⌜ r ≡ low kind field ⌝ }
 {
     let j = row_of(kind);
-    cell(j, 4 + 2 * place)
+    cell(j, 4 + 2 * field)
 }
 
 // The greatest number at a place after the word.
-fn high(kind: usize, place: usize) -> usize
-    requires { ⌜ place ≤ 2 ⌝ }
-    ensures { λ r. ⌜ r ≡ high kind place ⌝ }
+fn high(kind: usize, field: usize) -> usize
+    requires { ⌜ field ≤ 2 ⌝ }
+    ensures { λ r. ⌜ r ≡ high kind field ⌝ }
 {
     let j = row_of(kind);
-    cell(j, 5 + 2 * place)
+    cell(j, 5 + 2 * field)
 }
 
 // The number of operands.
@@ -160,12 +165,12 @@ pub(crate) fn arity(kind: usize, first: usize) -> usize
 }
 
 // Digits of value v are the start of a number of the field.
-pub(crate) fn live(kind: usize, place: usize, v: usize) -> bool
-    requires { ⌜ (v ≤ 1000000) × (place ≤ 2) ⌝ }
-    ensures { λ r. ⌜ r ≡ live (low kind place) (high kind place) v ⌝ }
+pub(crate) fn live(kind: usize, field: usize, v: usize) -> bool
+    requires { ⌜ (v ≤ 1000000) × (field ≤ 2) ⌝ }
+    ensures { λ r. ⌜ r ≡ live (low kind field) (high kind field) v ⌝ }
 {
-    let lo = low(kind, place);
-    let hi = high(kind, place);
+    let lo = low(kind, field);
+    let hi = high(kind, field);
     if hi < v {
         return false;
     }

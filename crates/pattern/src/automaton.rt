@@ -15,14 +15,14 @@ use super::alphabet::low;
 use super::alphabet::next;
 
 // Digits of a number, if they start one of the field.
-fn number(kind: usize, place: usize, first: usize, second: usize, value: usize, need: usize) -> Step
-    requires { ⌜ (value ≤ 1000000) × (place ≤ 2) ⌝ }
-    ensures { λ r. ⌜ r ≡ number kind place first second value need ⌝ }
+fn number(kind: usize, field: usize, first: usize, second: usize, value: usize, need: usize) -> Step
+    requires { ⌜ (value ≤ 1000000) × (field ≤ 2) ⌝ }
+    ensures { λ r. ⌜ r ≡ number kind field first second value need ⌝ }
 {
-    if live(kind, place, value) {
+    if live(kind, field, value) {
         Step::Within(State::Digits {
             kind,
-            place,
+            field,
             first,
             second,
             value,
@@ -65,7 +65,7 @@ fn word_end(kind: usize, need: usize) -> Step
     }
     Step::Within(State::Field {
         kind,
-        place: 0,
+        field: 0,
         first: 0,
         second: 0,
         need,
@@ -91,17 +91,17 @@ fn letter(row: usize, read: usize, b: usize, need: usize) -> Step
 }
 
 // A symbol's numbers after the field at the place.
-fn with_value(place: usize, first: usize, second: usize, value: usize) -> Values
-    ensures { λ r. ⌜ Follow place first second value r ⌝ }
+fn with_value(field: usize, first: usize, second: usize, value: usize) -> Values
+    ensures { λ r. ⌜ Follow field first second value r ⌝ }
 {
-    if place == 0 {
+    if field == 0 {
         return Values {
             first: value,
             second: 0,
             third: 0,
         };
     }
-    if place == 1 {
+    if field == 1 {
         return Values {
             first,
             second: value,
@@ -118,23 +118,23 @@ fn with_value(place: usize, first: usize, second: usize, value: usize) -> Values
 // A comma after a number.
 fn number_end(
     kind: usize,
-    place: usize,
+    field: usize,
     first: usize,
     second: usize,
     value: usize,
     need: usize,
 ) -> Step
-    requires { ⌜ (1 ≤ need) × ((need ≤ 1000000) × ((firstField place first value ≤ 1000000) × (place ≤ 2))) ⌝ }
-    ensures { λ r. ⌜ r ≡ numberEnd kind place first second value need ⌝ }
+    requires { ⌜ (1 ≤ need) × ((need ≤ 1000000) × ((firstField field first value ≤ 1000000) × (field ≤ 2))) ⌝ }
+    ensures { λ r. ⌜ r ≡ numberEnd kind field first second value need ⌝ }
 {
-    if value < low(kind, place) {
+    if value < low(kind, field) {
         return Step::Dead;
     }
-    let t = with_value(place, first, second, value);
-    if place + 1 < field_count(kind) {
+    let t = with_value(field, first, second, value);
+    if field + 1 < field_count(kind) {
         return Step::Within(State::Field {
             kind,
-            place: place + 1,
+            field: field + 1,
             first: t.first,
             second: t.second,
             need,
@@ -152,7 +152,7 @@ pub(crate) fn advance(s: State, b: usize) -> Step
         State::Letters { row, read, need } => letter(next(row, read, b), read, b, need),
         State::Field {
             kind,
-            place,
+            field,
             first,
             second,
             need,
@@ -163,18 +163,18 @@ pub(crate) fn advance(s: State, b: usize) -> Step
             if 57 < b {
                 return Step::Dead;
             }
-            number(kind, place, first, second, b - 48, need)
+            number(kind, field, first, second, b - 48, need)
         }
         State::Digits {
             kind,
-            place,
+            field,
             first,
             second,
             value,
             need,
         } => {
             if b == 44 {
-                return number_end(kind, place, first, second, value, need);
+                return number_end(kind, field, first, second, value, need);
             }
             if b < 48 {
                 return Step::Dead;
@@ -185,7 +185,7 @@ pub(crate) fn advance(s: State, b: usize) -> Step
             if value == 0 {
                 return Step::Dead;
             }
-            number(kind, place, first, second, 10 * value + (b - 48), need)
+            number(kind, field, first, second, 10 * value + (b - 48), need)
         }
     }
 }
@@ -225,26 +225,26 @@ pub(crate) fn last(s: State) -> Step
         } => Step::Dead,
         State::Field {
             kind: _,
-            place: _,
+            field: _,
             first: _,
             second: _,
             need: _,
         } => Step::Dead,
         State::Digits {
             kind,
-            place,
+            field,
             first,
             second,
             value,
             need,
         } => {
-            if value < low(kind, place) {
+            if value < low(kind, field) {
                 return Step::Dead;
             }
-            if place + 1 < field_count(kind) {
+            if field + 1 < field_count(kind) {
                 return Step::Dead;
             }
-            let t = with_value(place, first, second, value);
+            let t = with_value(field, first, second, value);
             whole(kind, t.first, t.second, t.third, need)
         }
     }

@@ -51,7 +51,7 @@ enum State {
     // a word, whole fields, and a comma
     Field {
         kind: usize,
-        place: usize,
+        field: usize,
         first: usize,
         second: usize,
         need: usize,
@@ -59,7 +59,7 @@ enum State {
     // and digits
     Digits {
         kind: usize,
-        place: usize,
+        field: usize,
         first: usize,
         second: usize,
         value: usize,

@@ -9,8 +9,12 @@ use super::Sizes;
 use super::Table;
 use super::alphabet::arity;
 use basics::longer;
+use nodes::FIRST;
 use nodes::NODES;
+use nodes::SECOND;
+use nodes::SIZE;
 use nodes::TABLE;
+use nodes::THIRD;
 
 // The sizes of the subtrees and the depth, from the last node to the first: a node's operands have theirs by then.
 pub(crate) fn measure(kind: [usize; NODES], first: [usize; NODES], count: usize) -> Sizes
@@ -64,9 +68,9 @@ pub(crate) fn tabled(
 {
     let mut rows = [0usize; TABLE];
     put_column(&mut rows, 0, kind);
-    put_column(&mut rows, 32, size);
-    put_column(&mut rows, 64, first);
-    put_column(&mut rows, 96, second);
-    put_column(&mut rows, 128, third);
+    put_column(&mut rows, SIZE, size);
+    put_column(&mut rows, FIRST, first);
+    put_column(&mut rows, SECOND, second);
+    put_column(&mut rows, THIRD, third);
     Table { count, rows }
 }

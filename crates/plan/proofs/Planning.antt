@@ -13,7 +13,8 @@ use borrow.Author.Tests.{le-leb, lt-ltb, leb-true, eqb-true, eqb-false, not-true
 use Rattle.basics.proofs.Basics.{cases, true-or-false, true-and, and-true, or-true, or-false, le-or-lt}
 use Rattle.stretches.specs.Stretch.{Stretch, st, Fine, marks}
 use Rattle.stretches.specs.Operators.{operatorOf, apply}
-use Rattle.stretches.specs.Table.{kindAt, sizeAt, firstAt, secondAt, leafKind, Given, operandsOf, listAt}
+use Rattle.stretches.specs.Table.{kindAt, sizeAt, firstAt, secondAt, leafKind, Given, listAt}
+use Rattle.stretches.specs.inner.Operands.{operandsOf}
 use Rattle.stretches.proofs.Fine.{fine-marks}
 use Rattle.stretches.proofs.Marks.{marks-clear}
 use Rattle.stretches.proofs.Table.{list-node, same-lists}
@@ -37,7 +38,7 @@ use Rattle.marking.proofs.Marking.{then-length}
 
 -- ── The planned table ──
 
--- a node's four numbers
+-- the numbers of a node that the plan reads
 record Node : Type 0 where
   kind : ℕ
   size : ℕ

@@ -7,9 +7,9 @@ use lib.ListN.{length, getD, take, drop, length-append}
 use lib.Seq.{drop-cons, take-nil, sets}
 use native.Mathlib.Omega.{arith}
 use Rattle.stretches.specs.Stretch.{Stretch, st}
-use Rattle.basics.specs.Decimal.{decimal}
 use Rattle.stretches.specs.Lent.{pairs}
 use Rattle.stretches.specs.Filling.{flat}
+use Rattle.basics.specs.Decimal.{decimal}
 use Rattle.print.specs.Print.{field, rows, shown}
 use Rattle.print.proofs.Placing.{sets-append}
 

@@ -10,8 +10,8 @@ use lib.Dec.{leb}
 use borrow.Author.Tests.{leb-true, leb-false, not-true, not-false}
 use native.Mathlib.Omega.{arith}
 use Rattle.stretches.specs.Stretch.{Stretch}
-use Rattle.basics.specs.Decimal.{decimal}
 use Rattle.stretches.specs.Lent.{pairs}
+use Rattle.basics.specs.Decimal.{decimal}
 use Rattle.print.specs.Print.{field, rows, foundSheet, refusedSheet, shown, Writes}
 use Rattle.print.proofs.Placing.{sets-append, laid-fits, laid-not}
 use Rattle.print.proofs.Printed.{length-field, length-pairs, shown-most}

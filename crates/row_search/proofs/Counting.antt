@@ -8,7 +8,7 @@ use lib.ListN.{length, getD, take, drop, drop-of-length-le}
 use lib.Seq.{take-nil, take-append-add, take-append-le}
 use lib.Pow.{shr-lt}
 use lib.Count.{ones, ones-le}
-use Rattle.marks.specs.Row.{bits, flags, lies, row, trues, marked}
+use Rattle.marks.specs.Row.{bits, flags, lies, row, trues, markCount}
 use Rattle.marks.proofs.Bits.{length-bits, bits-below, trues-bits, trues-all, ones-low}
 use Rattle.marks.proofs.Flags.{open-flags, next-flags, past-flags}
 use Rattle.marks.proofs.Rows.{Within, row-words, row-none, row-length, words-of-row, word-of-row}
@@ -47,26 +47,26 @@ pub record Counted (words : List ℕ) (at width s e k n room left w : ℕ) : Typ
   pub most : room ≤ 64
   pub few : n + room ≤ 64 * suc k
   pub word : w < 2 ^ room
-  pub sum : marked (row words at width) s e ≡ n + trues (take (suc left) (bits room w ++ flags (drop (suc k) (take width (drop at words)))))
+  pub sum : markCount (row words at width) s e ≡ n + trues (take (suc left) (bits room w ++ flags (drop (suc k) (take width (drop at words)))))
 
 module _ (words : List ℕ) (at width s e : ℕ) where
-  pub none-outside : lies (length words) at width ≡ false → 0 ≡ marked (row words at width) s e
-  unfolding marked
-  none-outside h = sym (ap (λ (l : List Bool). marked l s e) (row-none words at width h)
+  pub none-outside : lies (length words) at width ≡ false → 0 ≡ markCount (row words at width) s e
+  unfolding markCount
+  none-outside h = sym (ap (λ (l : List Bool). markCount l s e) (row-none words at width h)
       ∙ ap (λ (l : List Bool). trues (take (suc e - s) l)) (drop-of-length-le [] {i = s} (omega arith)) ∙ trues-nil (suc e - s))
 
-  pub none-past : Within words at width → width ≤ s / 64 → 0 ≡ marked (row words at width) s e
-  unfolding marked
+  pub none-past : Within words at width → width ≤ s / 64 → 0 ≡ markCount (row words at width) s e
+  unfolding markCount
   none-past h l = sym (ap (λ (b : List Bool). trues (take (suc e - s) b))
       (drop-of-length-le (row words at width) {i = s} (omega (arith, row-length words at width (h .inside)))) ∙ trues-nil (suc e - s))
 
-  pub none-between : e < s → 0 ≡ marked (row words at width) s e
-  unfolding marked trues
+  pub none-between : e < s → 0 ≡ markCount (row words at width) s e
+  unfolding markCount trues
   none-between h = let z : suc e - s ≡ 0 = omega arith in sym (ap (λ (x : ℕ). trues (take x (drop s (row words at width)))) z)
 
   pub begin : Within words at width → s / 64 < width → s ≤ e → getD words (at + s / 64) 0 < 2 ^ 64
       → Counted words at width s e (s / 64) 0 (64 - s % 64) (e - s) (getD words (at + s / 64) 0 / 2 ^ (s % 64))
-  unfolding marked
+  unfolding markCount
   begin h l g f =
       let ws = take width (drop at words) in
       let n = words-of-row words at width (h .ends) in
@@ -88,10 +88,10 @@ module _ (words : List ℕ) (at width s e : ℕ) where
       }
 
 module _ (words : List ℕ) (at width s e k n room left w : ℕ) (c : Counted words at width s e k n room left w) where
-  passed : room ≤ left → marked (row words at width) s e ≡ n + ones w + trues (take (suc (left - room)) (flags (drop (suc k) (take width (drop at words)))))
+  passed : room ≤ left → markCount (row words at width) s e ≡ n + ones w + trues (take (suc (left - room)) (flags (drop (suc k) (take width (drop at words)))))
   passed h = omega (arith, c .sum, whole room left w (flags (drop (suc k) (take width (drop at words)))) h (c .word))
 
-  pub no-more : (m : ℕ) → m ≡ ones w → room ≤ left → width ≤ k + 1 → n + m ≡ marked (row words at width) s e
+  pub no-more : (m : ℕ) → m ≡ ones w → room ≤ left → width ≤ k + 1 → n + m ≡ markCount (row words at width) s e
   no-more m q h l =
       let g = past-flags (take width (drop at words)) (suc k) (omega (arith, words-of-row words at width (c .fits .ends))) in
       omega (arith, passed h, ap (λ (b : List Bool). trues (take (suc (left - room)) b)) g ∙ trues-nil (suc (left - room)))
@@ -114,5 +114,5 @@ module _ (words : List ℕ) (at width s e k n room left w : ℕ) (c : Counted wo
             ∙ ap (λ (x : ℕ). n + m + trues (take (suc (left - room)) (bits 64 x ++ flags (drop (suc (k + 1)) ws)))) (word-of-row words at width (k + 1) l);
       }
 
-  pub last : (m : ℕ) → m ≡ ones ((w * 2 ^ (63 - left)) % 2 ^ 64) → left < room → n + m ≡ marked (row words at width) s e
+  pub last : (m : ℕ) → m ≡ ones ((w * 2 ^ (63 - left)) % 2 ^ 64) → left < room → n + m ≡ markCount (row words at width) s e
   last m q h = omega (arith, c .sum, part room left w (flags (drop (suc k) (take width (drop at words)))) h (c .most))

@@ -7,7 +7,7 @@ ghost use Prim.Native.Nat.{_≤_};
 ghost use lib.Count.{ones};
 ghost use Rattle.stretches.specs.Stretch.{marks};
 ghost use Rattle.stretches.specs.Front.{firstFrom};
-ghost use Rattle.marks.specs.Row.{row, marked};
+ghost use Rattle.marks.specs.Row.{row, markCount};
 ghost use Rattle.row_search.specs.Found.{found};
 
 // The first marked line from a line on. Where hit is false there is none, and line is 0.
@@ -61,7 +61,7 @@ fn marks_in(w: u64) -> usize
 
 // How many lines of the row from s through e are marked. Lines that the row does not have are not; where e is below s, none is.
 pub fn count(words: &[u64], at: usize, width: usize, s: usize, e: usize) -> usize
-    ensures { λ r. ⌜ r ≡ marked (row (now (words .entry)) at width) s e ⌝ }
+    ensures { λ r. ⌜ r ≡ markCount (row (now (words .entry)) at width) s e ⌝ }
 {
     if !inside(words.len(), at, width) {
         return 0;

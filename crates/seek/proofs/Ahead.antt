@@ -4,8 +4,8 @@ use mathlib.Core.List.{List, [], _∷_}
 use Prim.Native.Nat.{ℕ, suc, _+_, _≤_, _<_}
 use native.Mathlib.Omega.{arith}
 use Rattle.stretches.specs.Stretch.{Stretch, st, Fine}
-use Rattle.stretches.specs.Front as fronts
 use Rattle.stretches.specs.Front.{None, At, firstFrom, onward}
+use Rattle.stretches.specs.Front as fronts
 use Rattle.stretches.proofs.Fronts.{front-good}
 use Rattle.stretches.proofs.Steps.{onward-none, onward-at}
 use Rattle.seek.specs.declared.Front.{Front}

@@ -8,15 +8,15 @@ use native.Mathlib.Omega.{arith}
 use lib.Dec.{ltb}
 use borrow.Author.Tests.{ltb-true, ltb-false, lt-ltb, le-ltb}
 use Rattle.stretches.specs.Stretch.{Stretch, Rising, Or, answers}
-use Rattle.stretches.specs.Front as fronts
 use Rattle.stretches.specs.Front.{None, At, firstFrom}
+use Rattle.stretches.specs.Taking.{endsFirst}
+use Rattle.stretches.specs.Front as fronts
 use Rattle.stretches.proofs.Lists.{st-path}
 use Rattle.basics.proofs.Basics.{cases}
 use Rattle.stretches.proofs.Answers.{AllRising}
 use Rattle.stretches.proofs.Fronts.{better, bestFront, FirstIs, first-good, or-front}
 use Rattle.stretches.proofs.InRun.{Below, AllBelow}
 use Rattle.stretches.proofs.Orders.{ends-true, ends-false}
-use Rattle.stretches.specs.Taking.{endsFirst}
 use Rattle.seek.specs.declared.Front.{Front}
 use Rattle.seek.specs.First.{atF, noneF, front}
 use Rattle.seek.specs.inner.Fronts.{betterOf}

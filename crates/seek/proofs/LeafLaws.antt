@@ -13,8 +13,8 @@ use borrow.Author.Tests.{le-leb, lt-leb}
 use Rattle.basics.proofs.Basics.{cases}
 use Rattle.stretches.specs.Stretch.{Stretch, st, In, Rising, Fine, marks}
 use Rattle.stretches.specs.Lent.{part}
-use Rattle.stretches.specs.Front as fronts
 use Rattle.stretches.specs.Front.{None, At, firstFrom}
+use Rattle.stretches.specs.Front as fronts
 use Rattle.stretches.proofs.Fronts.{front-good}
 use Rattle.stretches.proofs.Marks.{in-marks, rising-marks}
 use Rattle.stretches.proofs.Lent.{part-cons, part-nil}

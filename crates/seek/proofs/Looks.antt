@@ -7,8 +7,8 @@ use native.Mathlib.Omega.{arith}
 use lib.Dec.{leb, ltb, eqb}
 use borrow.Author.Tests.{ltb-false, lt-ltb, eqb-true, eqb-false}
 use Rattle.stretches.specs.Stretch.{Stretch, st, In, Fine, low, high, keep, containsNone, atMost, Op, And, Row, Then, answers}
-use Rattle.stretches.specs.Front as fronts
 use Rattle.stretches.specs.Front.{None, At, firstFrom}
+use Rattle.stretches.specs.Front as fronts
 use Rattle.basics.proofs.Basics.{cases}
 use Rattle.stretches.proofs.Answers.{AllRising, AllSound, high-first}
 use Rattle.stretches.proofs.Fronts.{FirstIs, front-good, FrontsAt}

@@ -9,11 +9,12 @@ use native.Mathlib.Omega.{arith}
 use lib.Dec.{eqb}
 use borrow.Author.Tests.{ne-eqb}
 use Rattle.stretches.specs.Stretch.{Stretch, Fine, Op, answers, marks}
-use Rattle.stretches.specs.Stretch as op
 use Rattle.stretches.specs.Operators.{operators, among, operatorOf, apply}
-use Rattle.stretches.specs.Front as fronts
 use Rattle.stretches.specs.Front.{None, At, firstFrom}
-use Rattle.stretches.specs.Table.{kindAt, firstAt, secondAt, stopOf, operandsOf}
+use Rattle.stretches.specs.Table.{kindAt, firstAt, secondAt, stopOf}
+use Rattle.stretches.specs.inner.Operands.{operandsOf}
+use Rattle.stretches.specs.Stretch as op
+use Rattle.stretches.specs.Front as fronts
 use Rattle.stretches.proofs.Answers.{cand-sound}
 use Rattle.stretches.proofs.InRun.{cand-below}
 use Rattle.stretches.proofs.Fine.{AllFine}

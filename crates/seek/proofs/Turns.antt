@@ -10,7 +10,8 @@ use lib.Dec.{leb, ltb, eqb}
 use borrow.Author.Tests.{lt-ltb, le-ltb, eq-eqb, ne-eqb}
 use Rattle.stretches.specs.Stretch.{Stretch, st}
 use Rattle.stretches.specs.Front.{firstFrom}
-use Rattle.stretches.specs.Table.{kindAt, firstAt, nextOf, stopOf, operandsFrom, operandsOf}
+use Rattle.stretches.specs.Table.{kindAt, firstAt, nextOf, stopOf}
+use Rattle.stretches.specs.inner.Operands.{operandsFrom, operandsOf}
 use Rattle.stretches.proofs.Table.{stop-most, from-more, from-end}
 use Rattle.seek.specs.declared.Front.{Front}
 use Rattle.seek.specs.declared.fronts.Look.{Look}

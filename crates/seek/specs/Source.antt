@@ -46,6 +46,6 @@ Good src rows = (v : ℕ) → v < 32 → Fine 65536 (given src rows .own v)
 abbrev column : List ℕ → List ℕ
 column l = l ++ replicate 29 0
 
-ex-list : listOver (source (9 ∷ 5 ∷ 1 ∷ []) (0 ∷ 0 ∷ 2 ∷ 2 ∷ [])) (column (5 ∷ 16 ∷ 17 ∷ []) ++ column (3 ∷ 1 ∷ 1 ∷ []) ++ column (0 ∷ 1 ∷ 2 ∷ []) ++ column (0 ∷ 2 ∷ 4 ∷ [])) 0 ≡ st 0 0 ∷ st 64 64 ∷ []
+ex-list : listOver (source (9 ∷ 5 ∷ 1 ∷ []) (0 ∷ 0 ∷ 2 ∷ 2 ∷ [])) (column (5 ∷ 16 ∷ 17 ∷ []) ++ column (3 ∷ 1 ∷ 1 ∷ []) ++ column (0 ∷ 1 ∷ 2 ∷ []) ++ column (0 ∷ 2 ∷ 4 ∷ []) ++ replicate 32 0) 0 ≡ st 0 0 ∷ st 64 64 ∷ []
 unfolding listAt Rattle.stretches.specs.Table.lastLists Rattle.stretches.specs.Table.operands Rattle.stretches.specs.Table.nextOf Rattle.stretches.specs.Table.stopOf row Rattle.marks.specs.Row.flags Rattle.marks.specs.Row.bits
 ex-list = refl

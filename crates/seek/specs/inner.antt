@@ -1,3 +1,4 @@
+-- What only contracts of private functions and laws cite: no public promise does.
 pub mod Fronts
 pub mod Leaves
 pub mod Looks

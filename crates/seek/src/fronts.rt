@@ -1,4 +1,4 @@
-// Fronts, looks and what is kept of a node: small steps that no call goes out of.
+// Fronts, looks and what is kept of a node: small steps.
 use crate::Front;
 use crate::NONE;
 use crate::STATE;

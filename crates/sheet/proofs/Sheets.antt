@@ -11,6 +11,7 @@ use lib.Dec.{eqb}
 use borrow.Author.Tests.{eqb-true, eq-eqb, ne-eqb}
 use native.Mathlib.Omega.{arith}
 use Rattle.stretches.specs.Stretch.{Stretch}
+use Rattle.stretches.specs.Filling.{written, filled}
 use Rattle.stretches.proofs.Answers.{Sound}
 use Rattle.stretches.proofs.InRun.{Below}
 use Rattle.records.specs.Line.{says}
@@ -20,7 +21,6 @@ use Rattle.basics.proofs.Basics.{le-or-lt}
 use Rattle.pattern.proofs.Outcomes.{refuses-long}
 use Rattle.meaning.specs.declared.Filled.{Filled}
 use Rattle.meaning.specs.Refusals.{Refusal, refused, refusal}
-use Rattle.stretches.specs.Filling.{written, filled}
 use Rattle.meaning.specs.Finding.{listOf, filling}
 use Rattle.meaning.proofs.Tree.{fine-answersOf}
 use Rattle.meaning.proofs.Run.{says-length}

@@ -7,7 +7,8 @@ use lib.ListN.{length, getD, take, drop}
 use lib.Seq.{drop-cons}
 use native.Mathlib.Omega.{arith}
 use Rattle.stretches.specs.Stretch.{st}
-use Rattle.stretches.specs.Lent.{pairs, part, listsFrom, listsOf, startOf}
+use Rattle.stretches.specs.Lent.{pairs, part, listsFrom, listsOf}
+use Rattle.stretches.specs.inner.Starts.{startOf}
 
 -- ── A part of the items ──
 

@@ -12,7 +12,8 @@ use borrow.Author.Tests.{leb-true, ltb-true, le-leb, lt-ltb, le-ltb, eq-eqb, ne-
 use Rattle.basics.proofs.Basics.{cases, eq-or-ne}
 use Rattle.stretches.specs.Stretch.{Stretch, Fine}
 use Rattle.stretches.specs.Operators.{operatorOf, apply}
-use Rattle.stretches.specs.Table.{kindAt, sizeAt, firstAt, nextOf, stopOf, operands, numbers, operandsUp, Given, nodeList, lastLists, listAt, operandsFrom, operandsOf}
+use Rattle.stretches.specs.Table.{kindAt, sizeAt, firstAt, nextOf, stopOf, operands, numbers, operandsUp, Given, nodeList, lastLists, listAt}
+use Rattle.stretches.specs.inner.Operands.{operandsFrom, operandsOf}
 use Rattle.stretches.proofs.Fine.{AllFine, all-none, all-more, first-fine, rest-fine, fine-apply}
 
 -- ── The places behind a node ──

@@ -1,9 +1,9 @@
 -- Lent lists: one run of starts and ends in turn holding the lists one after another, and one run with the place where each list ends:
 -- document 01's "Finding".
 -- Assumes nothing.
-use Prim.Native.Nat.{ℕ, zero, suc, _-_}
+use Prim.Native.Nat.{ℕ, _-_}
 use mathlib.Core.List.{List, [], _∷_}
-use lib.ListN.{getD, take, drop}
+use lib.ListN.{take, drop}
 use Rattle.stretches.specs.Stretch.{Stretch, st}
 
 -- starts and ends in turn
@@ -23,8 +23,3 @@ listsFrom i items (e ∷ ends) = part items i e ∷ listsFrom e items ends
 
 abbrev pub listsOf : List ℕ → List ℕ → List (List Stretch)
 listsOf items ends = listsFrom 0 items ends
-
--- where list k starts: where the list before it ends
-abbrev pub startOf : List ℕ → ℕ → ℕ
-startOf ends zero = 0
-startOf ends (suc k) = getD ends k 0

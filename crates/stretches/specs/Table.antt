@@ -81,13 +81,6 @@ lastLists g rows (suc n) = withNode g rows (31 - n) (lastLists g rows n)
 unfoldable pub listAt : Given → List ℕ → ℕ → List Stretch
 listAt g rows v = getD (lastLists g rows 32) v []
 
--- the lists of the operands from c on, and of all of v's
-unfoldable pub operandsFrom : Given → List ℕ → ℕ → ℕ → List (List Stretch)
-operandsFrom g rows stop c = operands rows stop c c (lastLists g rows (32 - c))
-
-abbrev pub operandsOf : Given → List ℕ → ℕ → List (List Stretch)
-operandsOf g rows v = operandsFrom g rows (stopOf rows v) (v + 1)
-
 -- ── An example ──
 
 abbrev column : List ℕ → List ℕ

@@ -10,9 +10,10 @@ use lib.ListN.{length, getD}
 use lib.Dec.{ltb, eqb}
 use borrow.Author.Tests.{lt-ltb, le-ltb, eq-eqb, ne-eqb}
 use Rattle.stretches.specs.Stretch.{Stretch, st}
-use Rattle.basics.proofs.Basics.{le-or-lt}
 use Rattle.stretches.specs.Front.{None, At, nth}
-use Rattle.stretches.specs.Lent.{part, listsOf, startOf}
+use Rattle.stretches.specs.Lent.{part, listsOf}
+use Rattle.stretches.specs.inner.Starts.{startOf}
+use Rattle.basics.proofs.Basics.{le-or-lt}
 use Rattle.meaning.specs.Refusals.{miscut}
 use Rattle.stretches.proofs.Lent.{part-cons, part-nil, lists-at}
 use Rattle.lent.proofs.Cutting.{ends-inside}

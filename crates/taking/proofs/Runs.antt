@@ -10,8 +10,8 @@ use lib.Seq.{take-at, drop-at}
 use Rattle.stretches.specs.Stretch.{Stretch, st, answers}
 use Rattle.stretches.specs.Front.{Front, None, nth}
 use Rattle.stretches.specs.Taking.{AnswerCounts, total, skip, shrink, orHand, andHand, andFrom, next, taking}
-use Rattle.stretches.proofs.Taking.{or-taken, or-stays, and-taken, and-stays, nth-none}
 use Rattle.stretches.specs.Lent.{listsOf}
+use Rattle.stretches.proofs.Taking.{or-taken, or-stays, and-taken, and-stays, nth-none}
 use Rattle.stretches.proofs.Fine.{AllFine}
 use Rattle.stretches.proofs.Lent.{lists-length}
 use Rattle.taking.specs.declared.queue.Item.{Item}

@@ -10,10 +10,10 @@ use lib.Dec.{leb, ltb, eqb}
 use borrow.Author.Tests.{eq-eqb, ne-eqb, leb-true, ltb-false, not-false}
 use Rattle.stretches.specs.Taking as algorithm
 use Rattle.stretches.specs.Taking.{taking}
-use Rattle.basics.proofs.Basics.{and-true, or-false}
 use Rattle.stretches.specs.Stretch.{lengthOf}
 use Rattle.stretches.specs.Operators.{operatorOf}
 use Rattle.stretches.specs.Lent.{listsOf}
+use Rattle.basics.proofs.Basics.{and-true, or-false}
 use Rattle.meaning.specs.Refusals.{takesLists, miscalledTaking, takingRefusal}
 use Rattle.taking.specs.declared.queue.Item.{Item}
 use Rattle.taking.specs.declared.Taken.{Taken}

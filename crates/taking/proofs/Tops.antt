@@ -10,8 +10,8 @@ use lib.Seq.{drop-nil, length-take-le, getD-take, take-set-lt, drop-set-lt}
 use Rattle.stretches.specs.Stretch.{Stretch, st}
 use Rattle.stretches.specs.Front.{Front, None, At, nth}
 use Rattle.stretches.specs.Taking.{Order, fronts, leads, top, topIndex, join, span, oneMore, advance}
-use Rattle.stretches.proofs.Steps.{rising-length}
 use Rattle.stretches.specs.Lent.{listsOf}
+use Rattle.stretches.proofs.Steps.{rising-length}
 use Rattle.stretches.proofs.Fine.{AllFine}
 use Rattle.stretches.proofs.Lent.{lists-length}
 use Rattle.taking.specs.declared.queue.Item.{Item}

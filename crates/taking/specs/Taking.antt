@@ -9,9 +9,9 @@ use lib.Dec.{eqb}
 use Rattle.stretches.specs.Stretch.{Stretch, Op, lengthOf}
 use Rattle.stretches.specs.Operators.{operatorOf}
 use Rattle.stretches.specs.Front.{Front, None, At}
-use Rattle.stretches.specs.Taking as algorithm
 use Rattle.stretches.specs.Taking.{begun, taking}
 use Rattle.stretches.specs.Lent.{listsOf}
+use Rattle.stretches.specs.Taking as algorithm
 use Rattle.meaning.specs.Refusals.{takingRefusal}
 use Rattle.taking.specs.declared.Taken.{Taken}
 

@@ -8,7 +8,8 @@ ghost use mathlib.Core.List.{[]};
 ghost use lib.ListN.{length, take, getD};
 ghost use Rattle.stretches.specs.Front.{None, nth};
 ghost use Rattle.stretches.specs.Taking.{leads, join, span, contains, advance};
-ghost use Rattle.stretches.specs.Lent.{listsOf, startOf};
+ghost use Rattle.stretches.specs.Lent.{listsOf};
+ghost use Rattle.stretches.specs.inner.Starts.{startOf};
 ghost use Rattle.taking.specs.inner.Queue.{frontOf, orderOf, Lent, queue, betterOf, Topped, Moved};
 
 // The item of a list that was taken last; not found: its end mark.

@@ -11,8 +11,8 @@ put-requires c κs =
     let b = c .before .before .before .before .before .first2 in
     let o = c .before .before .before .before .before .before .before .sheet-buffer in
     let w = c .before .before .before .print-sheet in
-    held-prints (s .args .t) (s .args .pattern .now) (s .args .log .now) (a .result .now) (b .result .now) (o .result) _ (c .first3 .result .now) (w .result) (s .pre) (a .ensures) (b .ensures)
-    (o .ensures) (w .ensures) (c .first3 .ensures)
+    held-prints (s .args .t) (s .args .pattern .now) (s .args .log .now) (a .result .now) (b .result .now) (o .result) _ (c .first3 .result .now) (w .result) (s .pre) (a .ensures .0) (b .ensures .0)
+    (o .ensures) (w .ensures) (c .first3 .ensures .0)
 
 pub print-spec : {M : Type 1} → statement M
 print-spec =

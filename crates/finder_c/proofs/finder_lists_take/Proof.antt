@@ -1,4 +1,4 @@
--- `finder_c::finder_lists_take` meets its contract: the numbers fit their bits, and the rest is what `lists::take` ensures. Assumes nothing.
+-- `finder_c::finder_lists_take` meets its contract: the numbers fit their bits, and the rest is what `taking::take` ensures. Assumes nothing.
 use mathlib.Core.Path.{ap, _∙_}
 use Rattle.finder_c.specs.Packing.{packedTaken}
 use Rattle.finder_c.proofs.Small.{taking-small}

@@ -3,7 +3,7 @@ use Prim.Native.Nat.{ℕ, _+_, _<_}
 use mathlib.Core.Path.{_≡_}
 use mathlib.Core.List.{List}
 use lib.ListN.{length, getD}
-use Rattle.stretches.specs.Lent.{startOf}
+use Rattle.stretches.specs.inner.Starts.{startOf}
 use Rattle.stretches.specs.Table.{kindAt, sizeAt, firstAt, secondAt}
 
 -- the operator stands at node 0 over n lists, and the first i lists, each a leaf by its places, behind it; the other nodes are of no kind

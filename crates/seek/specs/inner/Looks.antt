@@ -7,7 +7,8 @@ use mathlib.Core.List.{List, [], _∷_}
 use lib.Dec.{leb, ltb, eqb}
 use Rattle.stretches.specs.Stretch.{Stretch, st}
 use Rattle.stretches.specs.Front.{firstFrom}
-use Rattle.stretches.specs.Table.{kindAt, firstAt, operandsOf}
+use Rattle.stretches.specs.Table.{kindAt, firstAt}
+use Rattle.stretches.specs.inner.Operands.{operandsOf}
 use Rattle.seek.specs.declared.Front.{Front}
 use Rattle.seek.specs.declared.fronts.Look.{Look}
 use Rattle.seek.specs.Source.{Source, measured, given, Good}

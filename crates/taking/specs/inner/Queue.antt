@@ -7,8 +7,8 @@ use lib.ListN.{length, take, drop}
 use Rattle.stretches.specs.Stretch.{st, Op, Or, And}
 use Rattle.stretches.specs.Front.{Front, None, At}
 use Rattle.stretches.specs.Taking.{Order, endsFirst, startsFirst, fronts, leads, top, topIndex, span}
-use Rattle.stretches.specs.Taking as taking
 use Rattle.stretches.specs.Lent.{listsOf}
+use Rattle.stretches.specs.Taking as taking
 use Rattle.meaning.specs.Refusals.{miscut, disordered}
 use Rattle.taking.specs.declared.queue.Item.{Item}
 use Rattle.taking.specs.declared.queue.Top.{Top}

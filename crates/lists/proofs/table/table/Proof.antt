@@ -2,7 +2,7 @@
 use Prim.Native.Nat.{ℕ, _-_, _≤_}
 use mathlib.Core.Path.{_≡_, refl, subst, _∙_}
 use lib.ListN.{length}
-use Rattle.stretches.specs.Lent.{startOf}
+use Rattle.stretches.specs.inner.Starts.{startOf}
 use Rattle.lists.specs.inner.Table.{Laid}
 use Rattle.lists.proofs.Laying.{laid-root, laid-list, start-next}
 use borrow.Author.Needs.{needs}

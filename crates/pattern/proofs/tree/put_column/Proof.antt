@@ -1,4 +1,4 @@
--- `place`: the copy of i numbers grows by one a turn.
+-- `put_column`: the copy of i numbers grows by one a turn.
 -- Assumes nothing.
 use Prim.Native.Nat.{_-_, _≤_}
 use mathlib.Core.Path.{_≡_}

@@ -4,10 +4,10 @@ use borrow.Author.Needs.{needs}
 use mathlib.Core.Path.{refl, sym, ap, _∙_}
 use denote.Ref.{now}
 use Rattle.stretches.specs.Stretch.{st}
+use Rattle.stretches.specs.Taking.{isTop}
 use Rattle.taking.specs.inner.Queue.{Lent}
 use Rattle.taking.proofs.Turns.{Shrinking, shrink-start, shrink-at-top, shrink-still, shrink-turn, shrink-done, lent-kept}
 use borrow.Author.Tests.{not-true, not-false}
-use Rattle.stretches.specs.Taking.{isTop}
 use Rattle.taking.proofs.algorithm.shrink.Statement.{statement}
 use Rattle.taking.proofs.algorithm.shrink.Tie as tie
 

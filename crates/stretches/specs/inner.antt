@@ -1,0 +1,3 @@
+-- What no public promise cites.
+pub mod Operands
+pub mod Starts
