@@ -7,7 +7,7 @@
    pointer, allocates nothing and always returns.
 
    Stack: finder_fill marks the log's lines in words of its own, 32 KiB of them for a log of up to 8,192 lines and 240 KiB for any
-   other. Measured on x86-64 it takes some 261,000 bytes, whatever the log: give it a stack of 320 KiB or more. The calls over lists take
+   other. Measured on x86-64 it takes some 262,000 bytes, whatever the log: give it a stack of 320 KiB or more. The calls over lists take
    less than 8 KiB.
 
    A refused call writes nothing. Its result holds the number below, and for 3 the place; everything else in it is 0. Of several
