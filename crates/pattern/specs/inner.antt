@@ -2,4 +2,4 @@
 -- Assumes nothing.
 pub mod Scanner
 pub mod Nodes
-pub mod Cells
+pub mod Shapes

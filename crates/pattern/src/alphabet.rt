@@ -1,10 +1,9 @@
-// The kinds of symbols: their words, numbers and operands, read off two tables with a row for each kind.
+// The kinds of symbols: their words in the list's order, and what follows each word.
 ghost use mathlib.Core.Path.{_≡_};
 ghost use Prim.Native.Nat.{_≤_, _<_};
-ghost use mathlib.Core.List.{[]};
-ghost use lib.ListN.{length, getD};
-ghost use Rattle.pattern.specs.Kinds.{kinds, kindIn, rowOf, fieldCount, low, high, arity};
-ghost use Rattle.pattern.specs.inner.Cells.{table};
+ghost use lib.ListN.{length};
+ghost use Rattle.pattern.specs.Kinds.{kinds, kindIn, kindBy, fieldCount, low, high, arity};
+ghost use Rattle.pattern.specs.inner.Shapes.{shapeOf};
 ghost use Rattle.pattern.specs.Automaton.{letterAt, alike, next, live};
 use nodes::AND;
 use nodes::EV;
@@ -18,12 +17,10 @@ use nodes::THEN;
 // The number of kinds.
 pub(crate) const KINDS: usize = 8;
 
-// The rows and columns of the table of kinds.
-const ROWS: usize = 9;
+// The kinds in the list's order.
+const NUMBER: [usize; KINDS] = [EV, FR, OR, AND, ROW, THEN, LESS, MAX];
 
-const COLUMNS: usize = 10;
-
-// The words, filled up with commas.
+// Their words, filled up with commas.
 const WORD: [[u8; 4]; KINDS] = [
     [b'e', b'v', b',', b','],
     [b'f', b'r', b',', b','],
@@ -35,19 +32,15 @@ const WORD: [[u8; 4]; KINDS] = [
     [b'm', b'a', b'x', b','],
 ];
 
-// Number; numbers after the word; operands: 1 where the first number says how many, else 0, and how many then;
-// the least and the greatest value of each number. The last row is of no kind.
-const KIND: [[usize; COLUMNS]; ROWS] = [
-    [EV, 2, 0, 0, 1, 255, 0, 99, 0, 0],
-    [FR, 2, 0, 0, 0, 10, 0, 99, 0, 0],
-    [OR, 1, 1, 0, 2, 31, 0, 0, 0, 0],
-    [AND, 1, 1, 0, 2, 31, 0, 0, 0, 0],
-    [ROW, 1, 1, 0, 2, 31, 0, 0, 0, 0],
-    [THEN, 1, 1, 0, 2, 31, 0, 0, 0, 0],
-    [LESS, 0, 0, 2, 0, 0, 0, 0, 0, 0],
-    [MAX, 1, 0, 1, 1, 65535, 0, 0, 0, 0],
-    [0, 0, 0, 0, 0, 0, 0, 0, 0, 0],
-];
+// How many numbers follow a word, the least and the greatest value of each, whether the first of them is the number of operands, and how many
+// operands there are else.
+struct Shape {
+    numbers: usize,
+    least: [usize; 3],
+    most: [usize; 3],
+    counted: bool,
+    operands: usize,
+}
 
 // A byte as a number.
 pub(crate) fn wide(b: u8) -> usize
@@ -100,42 +93,105 @@ pub(crate) fn next(row: usize, read: usize, b: usize) -> usize
     KINDS
 }
 
-// A cell of the kinds' table.
-fn cell(row: usize, column: usize) -> usize
-    requires { ⌜ (row ≤ length kinds) × (column ≤ 9) ⌝ }
-    ensures { λ r. ⌜ r ≡ getD (getD table row []) column 0 ⌝ }
-{
-    KIND[row][column]
-}
-
 // The kind in a row.
 pub(crate) fn kind_in(row: usize) -> usize
     requires { ⌜ row < length kinds ⌝ }
     ensures { λ r. ⌜ r ≡ kindIn row .number ⌝ }
 {
-    cell(row, 0)
+    NUMBER[row]
 }
 
-// The row of a kind; KINDS: of none.
-fn row_of(kind: usize) -> usize
-    ensures { λ r. ⌜ (r ≡ rowOf kind) × (r ≤ length kinds) ⌝ }
+// What follows the word of a kind; of no kind nothing. A constant table would be laid out anew at each reading.
+fn shape_of(kind: usize) -> Shape
+    ensures { λ r. ⌜ r ≡ shapeOf (kindBy kind) ⌝ }
 {
-    let mut j = 0;
-    while j < KINDS {
-        if cell(j, 0) == kind {
-            return j;
-        }
-        j += 1;
+    if kind == EV {
+        return Shape {
+            numbers: 2,
+            least: [1, 0, 0],
+            most: [255, 99, 0],
+            counted: false,
+            operands: 0,
+        };
     }
-    KINDS
+    if kind == FR {
+        return Shape {
+            numbers: 2,
+            least: [0, 0, 0],
+            most: [10, 99, 0],
+            counted: false,
+            operands: 0,
+        };
+    }
+    if kind == OR {
+        return Shape {
+            numbers: 1,
+            least: [2, 0, 0],
+            most: [31, 0, 0],
+            counted: true,
+            operands: 0,
+        };
+    }
+    if kind == AND {
+        return Shape {
+            numbers: 1,
+            least: [2, 0, 0],
+            most: [31, 0, 0],
+            counted: true,
+            operands: 0,
+        };
+    }
+    if kind == ROW {
+        return Shape {
+            numbers: 1,
+            least: [2, 0, 0],
+            most: [31, 0, 0],
+            counted: true,
+            operands: 0,
+        };
+    }
+    if kind == THEN {
+        return Shape {
+            numbers: 1,
+            least: [2, 0, 0],
+            most: [31, 0, 0],
+            counted: true,
+            operands: 0,
+        };
+    }
+    if kind == LESS {
+        return Shape {
+            numbers: 0,
+            least: [0, 0, 0],
+            most: [0, 0, 0],
+            counted: false,
+            operands: 2,
+        };
+    }
+    if kind == MAX {
+        return Shape {
+            numbers: 1,
+            least: [1, 0, 0],
+            most: [65535, 0, 0],
+            counted: false,
+            operands: 1,
+        };
+    }
+    Shape {
+        numbers: 0,
+        least: [0, 0, 0],
+        most: [0, 0, 0],
+        counted: false,
+        operands: 0,
+    }
 }
 
 // How many numbers follow the word.
 pub(crate) fn field_count(kind: usize) -> usize
     ensures { λ r. ⌜ r ≡ fieldCount kind ⌝ }
 {
-    let j = row_of(kind);
-    cell(j, 1)
+    let s = shape_of(kind);
+    s.numbers
 }
 
 // The least number at a place after the word.
@@ -143,25 +199,17 @@ pub(crate) fn low(kind: usize, field: usize) -> usize
     requires { ⌜ field ≤ 2 ⌝ }
     ensures { λ r. ⌜ r ≡ low kind field ⌝ }
 {
-    let j = row_of(kind);
-    cell(j, 4 + 2 * field)
-}
-
-// The greatest number at a place after the word.
-fn high(kind: usize, field: usize) -> usize
-    requires { ⌜ field ≤ 2 ⌝ }
-    ensures { λ r. ⌜ r ≡ high kind field ⌝ }
-{
-    let j = row_of(kind);
-    cell(j, 5 + 2 * field)
+    let s = shape_of(kind);
+    let least = s.least;
+    least[field]
 }
 
 // The number of operands.
 pub(crate) fn arity(kind: usize, first: usize) -> usize
     ensures { λ r. ⌜ r ≡ arity kind first ⌝ }
 {
-    let j = row_of(kind);
-    if cell(j, 2) == 1 { first } else { cell(j, 3) }
+    let s = shape_of(kind);
+    if s.counted { first } else { s.operands }
 }
 
 // Digits of value v are the start of a number of the field.
@@ -169,8 +217,11 @@ pub(crate) fn live(kind: usize, field: usize, v: usize) -> bool
     requires { ⌜ (v ≤ 1000000) × (field ≤ 2) ⌝ }
     ensures { λ r. ⌜ r ≡ live (low kind field) (high kind field) v ⌝ }
 {
-    let lo = low(kind, field);
-    let hi = high(kind, field);
+    let s = shape_of(kind);
+    let least = s.least;
+    let most = s.most;
+    let lo = least[field];
+    let hi = most[field];
     if hi < v {
         return false;
     }

@@ -6,7 +6,7 @@ use native.Mathlib.Omega.{arith}
 use Rattle.pattern.specs.Kinds.{kindIn}
 use Rattle.basics.proofs.Basics.{getD-past}
 use Rattle.pattern.proofs.KindLaws.{word-short}
-use Rattle.pattern.proofs.Cells.{letter-cell}
+use Rattle.pattern.proofs.Shapes.{letter-cell}
 use Rattle.pattern.proofs.alphabet.letter.Statement.{statement}
 use Rattle.pattern.proofs.alphabet.letter.Tie as tie
 

@@ -1,15 +1,12 @@
--- `low`: a cell of the kind's row.
+-- `low`: a part of the kind's shape.
 -- Assumes nothing.
-use mathlib.Core.Path.{_∙_}
-use native.Mathlib.Omega.{arith}
 use borrow.Author.Needs.{needs}
-use Rattle.pattern.proofs.Cells.{low-cell}
+use Rattle.pattern.proofs.Shapes.{least-at}
 use Rattle.pattern.proofs.alphabet.low.Statement.{statement}
 use Rattle.pattern.proofs.alphabet.low.Tie as tie
 
 returns : tie.Need-returns
-returns c = let r = c .before .row-of in c .cell .ensures ∙ low-cell (c .before .before .args .kind) (r .result) (r .ensures .0) (r .ensures .1) (c .before .before .args .field) (c .before .before .pre)
+returns c = let a = c .before .before in least-at (a .args .kind) (c .before .shape-of .result) (c .before .shape-of .ensures) (a .args .field) (a .pre)
 
 pub low-spec : {M : Type 1} → statement M
-low-spec =
-    tie.close (tie.spec (λ c κs. search needs) (λ c. search needs) (λ c. search needs) (λ c κs. (c .row-of .ensures .1, omega arith)) returns)
+low-spec = tie.close (tie.spec (λ c κs. search needs) (λ c. search needs) (λ c. search needs) returns)
