@@ -3,7 +3,7 @@ ghost use mathlib.Core.Path.{_≡_};
 ghost use Prim.Native.Nat.{_≤_, _<_};
 ghost use lib.ListN.{length};
 ghost use Rattle.pattern.specs.Kinds.{kinds, kindIn, kindBy, fieldCount, low, high, arity};
-ghost use Rattle.pattern.specs.inner.Shapes.{shapeOf};
+ghost use Rattle.pattern.specs.inner.Shapes.{shaped, shapeOf};
 ghost use Rattle.pattern.specs.Automaton.{letterAt, alike, next, live};
 use nodes::AND;
 use nodes::EV;
@@ -101,89 +101,53 @@ pub(crate) fn kind_in(row: usize) -> usize
     NUMBER[row]
 }
 
-// What follows the word of a kind; of no kind nothing. A constant table would be laid out anew at each reading.
+fn made(
+    numbers: usize,
+    least: [usize; 3],
+    most: [usize; 3],
+    counted: bool,
+    operands: usize,
+) -> Shape
+    ensures { λ r. ⌜ r ≡ shaped numbers least most counted operands ⌝ }
+{
+    Shape {
+        numbers,
+        least,
+        most,
+        counted,
+        operands,
+    }
+}
+
+// What follows the word of a kind, a row a kind; nothing where no kind has the number. Branches, since a constant table is laid out anew at each reading.
 fn shape_of(kind: usize) -> Shape
     ensures { λ r. ⌜ r ≡ shapeOf (kindBy kind) ⌝ }
 {
     if kind == EV {
-        return Shape {
-            numbers: 2,
-            least: [1, 0, 0],
-            most: [255, 99, 0],
-            counted: false,
-            operands: 0,
-        };
+        return made(2, [1, 0, 0], [255, 99, 0], false, 0);
     }
     if kind == FR {
-        return Shape {
-            numbers: 2,
-            least: [0, 0, 0],
-            most: [10, 99, 0],
-            counted: false,
-            operands: 0,
-        };
+        return made(2, [0, 0, 0], [10, 99, 0], false, 0);
     }
     if kind == OR {
-        return Shape {
-            numbers: 1,
-            least: [2, 0, 0],
-            most: [31, 0, 0],
-            counted: true,
-            operands: 0,
-        };
+        return made(1, [2, 0, 0], [31, 0, 0], true, 0);
     }
     if kind == AND {
-        return Shape {
-            numbers: 1,
-            least: [2, 0, 0],
-            most: [31, 0, 0],
-            counted: true,
-            operands: 0,
-        };
+        return made(1, [2, 0, 0], [31, 0, 0], true, 0);
     }
     if kind == ROW {
-        return Shape {
-            numbers: 1,
-            least: [2, 0, 0],
-            most: [31, 0, 0],
-            counted: true,
-            operands: 0,
-        };
+        return made(1, [2, 0, 0], [31, 0, 0], true, 0);
     }
     if kind == THEN {
-        return Shape {
-            numbers: 1,
-            least: [2, 0, 0],
-            most: [31, 0, 0],
-            counted: true,
-            operands: 0,
-        };
+        return made(1, [2, 0, 0], [31, 0, 0], true, 0);
     }
     if kind == LESS {
-        return Shape {
-            numbers: 0,
-            least: [0, 0, 0],
-            most: [0, 0, 0],
-            counted: false,
-            operands: 2,
-        };
+        return made(0, [0, 0, 0], [0, 0, 0], false, 2);
     }
     if kind == MAX {
-        return Shape {
-            numbers: 1,
-            least: [1, 0, 0],
-            most: [65535, 0, 0],
-            counted: false,
-            operands: 1,
-        };
+        return made(1, [1, 0, 0], [65535, 0, 0], false, 1);
     }
-    Shape {
-        numbers: 0,
-        least: [0, 0, 0],
-        most: [0, 0, 0],
-        counted: false,
-        operands: 0,
-    }
+    made(0, [0, 0, 0], [0, 0, 0], false, 0)
 }
 
 // How many numbers follow the word.

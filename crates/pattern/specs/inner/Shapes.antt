@@ -21,12 +21,9 @@ fixed Counted = 0
 abbrev pub three : (Range → ℕ) → List Range → List ℕ
 three f rs = f (rangeAt rs 0) ∷ f (rangeAt rs 1) ∷ f (rangeAt rs 2) ∷ []
 
+abbrev pub shaped : ℕ → List ℕ → List ℕ → Bool → ℕ → Shape
+shaped n ls ms c o = record { numbers = n; least = ls; most = ms; counted = c; operands = o }
+
 -- what follows a kind's word
 abbrev pub shapeOf : Kind → Shape
-shapeOf x = record {
-  numbers = length (x .ranges);
-  least = three (λ r. r .least) (x .ranges);
-  most = three (λ r. r .most) (x .ranges);
-  counted = counted (x .operands);
-  operands = fixed (x .operands);
-}
+shapeOf x = shaped (length (x .ranges)) (three (λ r. r .least) (x .ranges)) (three (λ r. r .most) (x .ranges)) (counted (x .operands)) (fixed (x .operands))
