@@ -1,15 +1,23 @@
 -- Each part of a call's word is read back as it was packed: its numbers fit their bits. Assumes nothing.
 use Prim.Native.Nat.{ℕ, _+_, _*_, _^_, _≤_, _<_}
-use mathlib.Core.Path.{_≡_, refl}
-use mathlib.Core.Bool.{Bool, true, false}
+use mathlib.Core.Path.{_≡_, refl, ap₂, _∙_}
+use mathlib.Core.Bool.{Bool, true, false, cond}
 use mathlib.Core.List.{List}
+use lib.ListN.{length, take, drop}
+use borrow.Author.Tests.{ltb-false}
 use native.Mathlib.Omega.{arith}
+use Rattle.basics.proofs.Basics.{cases}
+use Rattle.lines.specs.Lines.{stretchLines, stretchStart}
+use Rattle.lines.proofs.StretchLaws.{stretch-part}
 use Rattle.meaning.specs.declared.Filled.{Filled}
 use Rattle.meaning.specs.Finding.{filling}
+use Rattle.meaning.specs.Refusals.{longLog}
+use Rattle.marking.specs.Rows.{counted}
 use Rattle.lists.specs.Filling.{fillResult}
 use Rattle.taking.specs.Taking.{takeResult}
-use Rattle.finder_c.specs.Packing.{bit, packedFill, packedTaken, refusalIn, flagIn, placeIn, writtenIn, endIn, ReadsFill, ReadsTaken}
+use Rattle.finder_c.specs.Packing.{bit, packedFill, packedTaken, packedCount, packedLines, refusalIn, flagIn, placeIn, writtenIn, endIn, startIn, ReadsFill, ReadsTaken, ReadsCount, ReadsLines}
 use Rattle.finder_c.proofs.Small.{filling-small, lists-small, taking-small}
+use Rattle.finder_c.proofs.Logs.{count-small}
 
 bit-small : (b : Bool) → bit b < 2
 bit-small true = omega arith
@@ -41,3 +49,36 @@ lists-take-reads op items ends counts number =
     let p = parts (r .number) (bit (r .found)) (r .start) (r .end) (packedTaken r) refl (omega (arith, h .0)) (bit-small (r .found)) (omega (arith, h .1)) (omega (arith, h .2)) in
     let end : endIn (packedTaken r) ≡ r .end = omega (arith, p .4, h .2) in
     record { fits = p .0; number = p .1; found = p .2; start = p .3; end = end }
+
+-- what finder_count returns
+pub count-reads : (log : List ℕ) → ReadsCount (packedCount log) log
+count-reads log =
+    let p = cases (longLog log) (λ b. longLog log ≡ b → Parts b) (λ _ k. long) (λ _ k. short (ltb-false 61440 (length log) k)) refl in
+    record { fits = p .0; number = p .1; damaged = p .2; lines = p .3 }
+  where
+    word : Bool → ℕ
+    word b = cond b 1 (65536 * counted log .damaged + 4294967296 * counted log .lines)
+
+    Parts : Bool → Type 0
+    Parts b = (word b < 2 ^ 64) × (refusalIn (word b) ≡ cond b 1 0) × (placeIn (word b) ≡ cond b 0 (counted log .damaged)) × (writtenIn (word b) ≡ cond b 0 (counted log .lines))
+
+    long : Parts true
+    long = (omega arith, omega arith, omega arith, omega arith)
+
+    short : length log ≤ 61440 → Parts false
+    short h =
+        let s = count-small log (counted log) refl h in
+        let p = parts 0 0 (counted log .damaged) (counted log .lines) (word false) (omega arith) (omega arith) (omega arith) (omega (arith, s .0)) (omega (arith, s .1)) in
+        (p .0, p .1, p .3, p .4)
+
+-- what finder_lines returns
+pub lines-reads : (log : List ℕ) (first last : ℕ) → ReadsLines (packedLines log first last) log first last
+lines-reads log first last =
+    let w = packedLines log first last in
+    let a = stretchStart log first last in
+    let n = length (stretchLines log first last) in
+    let h = stretch-part log first last in
+    let k = h .short in
+    let start : startIn w ≡ a = omega (arith, k) in
+    let bytes : writtenIn w ≡ n = omega (arith, k) in
+    record { fits = omega (arith, k); start = start; bytes = bytes; part = ap₂ (λ (i j : ℕ). take j (drop i log)) start bytes ∙ h .part }

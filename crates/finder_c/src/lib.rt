@@ -1,4 +1,5 @@
 // The calls from C: numbers and slices in, one packed number out. include/finder.h declares them.
+use lines::LOG_MAX;
 use meaning::Filled;
 use taking::Taken;
 ghost use mathlib.Core.Path.{_≡_};
@@ -7,7 +8,7 @@ ghost use Rattle.stretches.specs.Filling.{filled};
 ghost use Rattle.meaning.specs.Finding.{listOf, filling};
 ghost use Rattle.lists.specs.Filling.{fillResult, fillCells};
 ghost use Rattle.taking.specs.Taking.{takeResult, takeCells};
-ghost use Rattle.finder_c.specs.Packing.{packedFill, packedTaken, bit};
+ghost use Rattle.finder_c.specs.Packing.{packedFill, packedTaken, packedCount, packedLines, bit};
 
 // The bit of a flag.
 fn flag(b: bool) -> u64
@@ -77,4 +78,30 @@ pub extern "C" fn finder_lists_take(
 {
     let r = taking::take(op, items, ends, counts, number as usize);
     packed_taken(r)
+}
+
+// The lines of a log, and the damaged ones among them.
+#[no_mangle]
+pub extern "C" fn finder_count(log: &[u8]) -> u64
+    ensures { λ r. ⌜ r ≡ packedCount (now (log .entry)) ⌝ }
+{
+    if LOG_MAX < log.len() {
+        return 1;
+    }
+    let c = marking::count(log);
+    65536 * (c.damaged as u64) + 4294967296 * (c.lines as u64)
+}
+
+// Where the lines from first to last start in a log, and their length in bytes.
+#[no_mangle]
+pub extern "C" fn finder_lines(log: &[u8], first: u32, last: u32) -> u64
+    ensures { λ r. ⌜ r ≡ packedLines (now (log .entry)) first last ⌝ }
+{
+    let part = lines::stretch_lines(log, first as usize, last as usize);
+    let length = part.len();
+    if length == 0 {
+        return 0;
+    }
+    let start = lines::place_after(log, first as usize);
+    start as u64 + 4294967296 * (length as u64)
 }
