@@ -1,4 +1,4 @@
-/* Hostile inputs for the three calls, meant to run under valgrind: every buffer is a heap block of exactly the size lent, and lent cells
+/* Hostile inputs for every call, meant to run under valgrind: every buffer is a heap block of exactly the size lent, and lent cells
    are left unset, so that a read or write outside, or a branch on what was never written, is reported. */
 #include <stdio.h>
 #include <stdlib.h>
@@ -54,13 +54,43 @@ static uint8_t *text(const char *const *pieces, uint32_t count, size_t n)
 }
 
 /* Branches on every cell that a call says it wrote. */
-static unsigned sum;
+static unsigned sum, feeds;
 
 static void use(const uint32_t *cells, size_t written)
 {
     for (size_t i = 0; i < written; i++)
         if (cells[i] > 3)
             sum++;
+}
+
+static const uint32_t edges[] = {0, 1, 2, 6, 7, 31, 32, 65535, 65536, 0x7fffffff, 0x80000000, 0xfffffffe, 0xffffffff};
+
+/* Ends the run where a call says what cannot be. */
+static void must(int holds, const char *what)
+{
+    if (!holds) {
+        printf("hostile: %s\n", what);
+        exit(1);
+    }
+}
+
+/* The calls over a log alone: counts within its bytes, and parts that lie inside it, read to their ends. */
+static void over_lines(const uint8_t *log, size_t log_len)
+{
+    uint64_t counted = finder_count(log, log_len);
+    uint32_t lines = finder_counted_lines(counted);
+    must((finder_refusal(counted) == FINDER_ACCEPTED) == (log_len <= FINDER_LOG_MAX), "a log is refused by another length than its limit");
+    must(lines <= log_len && finder_counted_damaged(counted) <= lines, "more lines than bytes, or more damaged than lines");
+    uint32_t first = below(8) == 0 ? edges[below(COUNT(edges))] : below(lines + 1);
+    uint32_t last = below(8) == 0 ? edges[below(COUNT(edges))] : first + below(4);
+    uint64_t part = finder_lines(log, log_len, first, last);
+    size_t place = finder_part_place(part), length = finder_part_length(part);
+    must(place <= log_len && length <= log_len - place, "a part reaches outside the log");
+    must((length > 0) == (first <= last && last < lines), "a part is empty where it should not be, or the reverse");
+    must(length > 0 || place == 0, "an empty part has a place");
+    for (size_t i = place; i < place + length; i++)
+        if (log[i] == '\n')
+            feeds++;
 }
 
 static void over_log(void)
@@ -83,6 +113,7 @@ static void over_log(void)
     uint64_t from = below(8) == 0 ? UINT64_MAX - below(3) : below(4);
     uint64_t result = finder_fill(pattern, pattern_len, log, log_len, cells, cell_count, from);
     use(cells, 2 * (size_t)finder_written(result));
+    over_lines(log, log_len);
     free(pattern);
     free(log);
     free(cells);
@@ -90,7 +121,6 @@ static void over_log(void)
 
 static void over_lists(void)
 {
-    static const uint32_t edges[] = {0, 1, 2, 6, 7, 31, 32, 65535, 65536, 0x7fffffff, 0x80000000, 0xfffffffe, 0xffffffff};
     size_t list_count = below(10) == 0 ? below(40) : below(5), item_count = 0;
     uint32_t *ends = block(list_count * sizeof *ends);
     for (size_t i = 0; i < list_count; i++)
@@ -107,15 +137,17 @@ static void over_lists(void)
         items[below((uint32_t)item_count)] = edges[below(COUNT(edges))];
     uint32_t op = below(12) == 0 ? edges[below(COUNT(edges))] : 1 + below(6);
     uint32_t k = op == FINDER_MAX ? edges[below(COUNT(edges))] : below(9) == 0;
-    size_t cell_count = below(12);
+    size_t cell_count = below(4) == 0 ? item_count : below(12);
     uint32_t *cells = block(cell_count * sizeof *cells);
     uint64_t from = below(8) == 0 ? UINT64_MAX - below(3) : below(4);
-    use(cells, 2 * (size_t)finder_written(finder_lists_fill(op, k, items, item_count, ends, list_count, cells, cell_count, from)));
+    uint64_t result = finder_lists_fill(op, k, items, item_count, ends, list_count, cells, cell_count, from);
+    use(cells, 2 * (size_t)finder_written(result));
+    must(cell_count < item_count || !finder_more(result), "as many cells as items are not enough");
     free(cells);
 
     size_t count_cells = list_count + below(3);
     uint32_t *counts = block(count_cells * sizeof *counts);
-    uint64_t result = finder_lists_take(1 + below(2), items, item_count, ends, list_count, counts, count_cells, from);
+    result = finder_lists_take(1 + below(2), items, item_count, ends, list_count, counts, count_cells, from);
     use(counts, finder_refusal(result) == 0 ? list_count : 0);
     free(counts);
     free(items);
@@ -129,10 +161,10 @@ int main(int argc, char **argv)
         over_log();
         over_lists();
     }
-    if (sum == 0) {
-        puts("hostile: no call wrote anything, so nothing was tried");
+    if (sum == 0 || feeds == 0) {
+        puts("hostile: no call wrote anything, or no part had a line feed, so nothing was tried");
         return 1;
     }
-    printf("hostile: %d calls, no fault\n", 3 * rounds);
+    printf("hostile: %d calls, no fault\n", 5 * rounds);
     return 0;
 }

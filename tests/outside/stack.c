@@ -7,47 +7,65 @@
 
 #include "finder.h"
 
-enum { LOG_MAX = 61440, STACK = 1 << 20, FILL_MAX = 320 * 1024, LISTS_MAX = 8 * 1024, LISTS = 31, PAINT = 0xa5 };
+enum { STACK = 1 << 20, GAP = 1 << 14, PAINT = 0xa5 };
 
 /* Eight deep, and each operator once. */
 static const char pattern[] = "max,9,less,max,9,or,2,and,2,then,2,row,2,ev,1,0,ev,2,0,ev,3,0,ev,4,0,fr,1,0,ev,7,0";
-static uint8_t log_bytes[LOG_MAX];
+static uint8_t log_bytes[FINDER_LOG_MAX];
 static size_t log_len;
-static uint32_t cells[2 * LOG_MAX], items[2 * LISTS], ends[LISTS], counts[LISTS];
-static uint64_t result;
+static uint32_t cells[2 * FINDER_LOG_MAX], items[2 * FINDER_LISTS_MAX], ends[FINDER_LISTS_MAX], counts[FINDER_LISTS_MAX];
 
-static void *nothing(void *none) { return none; }
+/* Each call, and whether it did its work. */
+static int nothing(void) { return 1; }
 
-static void *fill(void *none)
+static int fill(void)
 {
-    result = finder_fill((const uint8_t *)pattern, sizeof pattern - 1, log_bytes, log_len, cells, 2 * LOG_MAX, 0);
-    return none;
+    return finder_refusal(finder_fill((const uint8_t *)pattern, sizeof pattern - 1, log_bytes, log_len, cells, 2 * FINDER_LOG_MAX, 0))
+        == FINDER_ACCEPTED;
 }
 
-static void *lists_fill(void *none)
+static int count(void) { return finder_counted_lines(finder_count(log_bytes, log_len)) == log_len / 10; }
+
+static int lines(void) { return finder_part_length(finder_lines(log_bytes, log_len, 1, (uint32_t)(log_len / 10 - 1))) == log_len - 10; }
+
+static int lists_fill(void)
 {
-    result = finder_lists_fill(FINDER_AND, 0, items, 2 * LISTS, ends, LISTS, cells, 2 * LOG_MAX, 0);
-    return none;
+    return finder_written(
+        finder_lists_fill(FINDER_AND, 0, items, 2 * FINDER_LISTS_MAX, ends, FINDER_LISTS_MAX, cells, 2 * FINDER_LOG_MAX, 0)) == 1;
 }
 
-static void *lists_take(void *none)
+static int lists_take(void)
 {
-    result = finder_lists_take(FINDER_AND, items, 2 * LISTS, ends, LISTS, counts, LISTS, 3);
+    return finder_taken(
+        finder_lists_take(FINDER_OR, items, 2 * FINDER_LISTS_MAX, ends, FINDER_LISTS_MAX, counts, FINDER_LISTS_MAX, FINDER_LISTS_MAX - 1));
+}
+
+static int (*call)(void);
+static int worked;
+
+/* Calls below a gap, deeper than what a thread's own beginning and end take. */
+static void *below_gap(void *none)
+{
+    volatile unsigned char gap[GAP];
+    gap[0] = 0;
+    worked = call();
+    gap[1] = gap[0];
     return none;
 }
 
 /* The bytes of a painted stack that a thread has overwritten. */
-static size_t taken(void *(*call)(void *))
+static size_t taken(int (*of)(void))
 {
     unsigned char *stack;
     pthread_attr_t how;
     pthread_t thread;
     size_t clean = 0;
+    call = of;
     if (posix_memalign((void **)&stack, 4096, STACK) != 0)
         exit(2);
     memset(stack, PAINT, STACK);
-    if (pthread_attr_init(&how) != 0 || pthread_attr_setstack(&how, stack, STACK) != 0 || pthread_create(&thread, &how, call, NULL) != 0
-        || pthread_join(thread, NULL) != 0)
+    if (pthread_attr_init(&how) != 0 || pthread_attr_setstack(&how, stack, STACK) != 0
+        || pthread_create(&thread, &how, below_gap, NULL) != 0 || pthread_join(thread, NULL) != 0)
         exit(2);
     while (clean < STACK && stack[clean] == PAINT)
         clean++;
@@ -55,27 +73,29 @@ static size_t taken(void *(*call)(void *))
     return STACK - clean;
 }
 
-/* Measures a call above what an empty thread takes; 1 where it takes more than it may, or was refused. */
-static int measure(const char *name, void *(*call)(void *), size_t most)
+/* Measures a call above an empty one; 1 where it takes more than it may, or did not do its work. */
+static int measure(const char *name, int (*of)(void), size_t most)
 {
-    size_t bytes = taken(call) - taken(nothing);
+    size_t bytes = taken(of) - taken(nothing);
     printf("stack: %s %zu bytes\n", name, bytes);
-    return bytes > most || finder_refusal(result) != 0;
+    return bytes > most || !worked;
 }
 
 int main(void)
 {
     int bad = 0;
-    for (log_len = 0; log_len + 10 <= LOG_MAX; log_len += 10)
+    for (log_len = 0; log_len + 10 <= FINDER_LOG_MAX; log_len += 10)
         memcpy(log_bytes + log_len, "1,4,1,1,6\n", 10);
-    for (size_t i = 0; i < LISTS; i++) {
+    for (size_t i = 0; i < FINDER_LISTS_MAX; i++) {
         items[2 * i] = items[2 * i + 1] = (uint32_t)i;
         ends[i] = (uint32_t)(2 * i + 2);
     }
-    bad |= measure("finder_fill, a full log,", fill, FILL_MAX);
+    bad |= measure("finder_fill, a full log,", fill, FINDER_STACK_FILL);
+    bad |= measure("finder_count", count, FINDER_STACK_OTHERS);
+    bad |= measure("finder_lines", lines, FINDER_STACK_OTHERS);
     log_len = 30;
-    bad |= measure("finder_fill, three lines,", fill, FILL_MAX);
-    bad |= measure("finder_lists_fill", lists_fill, LISTS_MAX);
-    bad |= measure("finder_lists_take", lists_take, LISTS_MAX);
+    bad |= measure("finder_fill, three lines,", fill, FINDER_STACK_FILL);
+    bad |= measure("finder_lists_fill", lists_fill, FINDER_STACK_OTHERS);
+    bad |= measure("finder_lists_take", lists_take, FINDER_STACK_OTHERS);
     return bad;
 }
