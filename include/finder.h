@@ -40,7 +40,7 @@ enum {
 };
 
 /* The stack that is enough for a call, in bytes. Measured, finder_fill takes some 260,000, whatever the log, finder_count 7,600,
-   finder_lists_fill 2,600, the other two less than 600. */
+   finder_lists_fill 2,600, the other two less than 600; in a program's first call the dynamic linker takes up to 3,200 more. */
 enum { FINDER_STACK_FILL = 320 * 1024, FINDER_STACK_OTHERS = 16 * 1024 };
 
 /* Why a call was refused: the lowest number that applies. A refused call writes nothing, and its result holds this number and, for
