@@ -1,5 +1,5 @@
-//! The reference against itself and the document: quick against literal, places by completion, the two rules of taking, and the cases
-//! that document 01 works out.
+//! The reference against itself and docs/FORMATS.md: quick against literal, places by completion, the two rules of taking, and the
+//! worked cases.
 
 use crate::compare::{self, Lists};
 use crate::inputs::{self, Rng};
@@ -114,7 +114,8 @@ fn points(at: &[u32]) -> List {
     at.iter().map(|&p| Stretch { s: p, e: p }).collect()
 }
 
-/// The worked cases of document 01 and Figure 1 of document 001: the document's own words against reference and calls.
+/// The worked cases of docs/FORMATS.md and Figure 1 of Boldi and Vigna, "Efficient Optimally Lazy Algorithms for Minimal-Interval
+/// Semantics": what they say against reference and calls.
 pub fn cases(t: &Trial) -> Outcome {
     let mut rng = Rng(22);
     let mut count = 0;

@@ -1,4 +1,5 @@
-//! Document 01 on lent lists: their refusals, and the taking of items by Algorithms 2 and 3 of document 001.
+//! docs/FORMATS.md on lent lists: their refusals, and the taking of items by Algorithms 2 and 3 of Boldi and Vigna, "Efficient
+//! Optimally Lazy Algorithms for Minimal-Interval Semantics".
 #![allow(dead_code)]
 
 use crate::reference::{inside, refusal_result, refused, List, Op, Refusal, Stretch, OPS, POSITION_MAX};

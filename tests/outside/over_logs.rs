@@ -5,7 +5,7 @@ use crate::inputs::{self, Rng};
 use crate::reference::{self, List, Stretch, LOG_MAX, PATTERN_MAX};
 use crate::{quick, Outcome, Trial};
 
-/// The log of document 01's printed sheet.
+/// The log of docs/FORMATS.md, "The printed sheet".
 pub const SHEET_LOG: &[u8] = b"1,4,7,3,6\n2,4,12,20,3,0\noops\n1,4,9,0,0\n1,5,9,0,0\n";
 
 /// Matches every sound line: one leaf for each frame.

@@ -24,7 +24,7 @@ fn printed(program: &str, input: &[u8]) -> std::io::Result<Vec<u8>> {
     Ok(output.stdout)
 }
 
-/// The document's example, and inputs whose sheet follows from the rules at once.
+/// The example of docs/FORMATS.md, and inputs whose sheet follows from the rules at once.
 fn known() -> Vec<(Vec<u8>, &'static str)> {
     let log = |bytes: usize| "\n".repeat(bytes);
     let example = "then,2,ev,7,0,ev,9,0\n1,4,7,3,6\n2,4,12,20,3,0\noops\n1,4,9,0,0\n1,5,9,0,0\n";

@@ -1,4 +1,4 @@
--- What the opening and a step give: document 01's "Finding". Assumes nothing.
+-- What the opening and a step give: docs/FORMATS.md, "Opening and step". Assumes nothing.
 use Prim.Native.Nat.{ℕ, zero, suc, _+_, _*_}
 use mathlib.Core.Bool.{Bool, false, cond, not, _&&_, _||_}
 use mathlib.Core.List.{List, []}

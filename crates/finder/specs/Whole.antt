@@ -1,4 +1,4 @@
--- The finder after n steps, acceptance, and the stretches of a pattern in a log as the calls give them: document 01's "The undamaged run". Assumes nothing.
+-- The finder after n steps, acceptance, and the stretches of a pattern in a log as the calls give them: docs/FORMATS.md, "The undamaged run". Assumes nothing.
 use Prim.Native.Nat.{ℕ, zero, suc, _*_}
 use mathlib.Core.Path.{_≡_}
 use mathlib.Core.Logic.{_⊎_}

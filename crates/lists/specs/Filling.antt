@@ -1,4 +1,4 @@
--- The filling call over lent lists: what it returns, and what it leaves in every cell: document 01's "Finding".
+-- The filling call over lent lists: what it returns, and what it leaves in every cell: docs/FORMATS.md, "Lent lists".
 -- Assumes nothing.
 use Prim.Native.Nat.{ℕ}
 use mathlib.Core.Bool.{false, cond}

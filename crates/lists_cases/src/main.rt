@@ -1,6 +1,7 @@
-// Reads calls over lists from standard input, the list examples of the text and Figure 1 of document 001 among them, and writes a line for each. A filling
+// Reads calls over lists from standard input, those of docs/FORMATS.md, "Worked cases", and the query of Figure 1 of
+// Boldi and Vigna, "Efficient Optimally Lazy Algorithms for Minimal-Interval Semantics" among them, and writes a line for each. A filling
 // call: F, number, place, count, 1 for "more"; then every lent cell. A taking call: T, number, 1 for an answer, start, end; then every count cell. Each lent
-// cell holds 7 before the call. What it must write was derived from the rules of the text, not by this program.
+// cell holds 7 before the call. What it must write was derived from the rules there, not by this program.
 //
 // A call stands on a line, in decimal numbers with a comma between: 0 for a filling call or 1 for a taking call, the operator, k (0 for a taking call), how
 // many cells are lent (at most 32), the number of the first answer or of the one taken, how many numbers the items are (at most 64), how many lists there

@@ -1,4 +1,4 @@
--- The list of a pattern in a log, and what the filling call over them returns: document 01's "Finding".
+-- The list of a pattern in a log, and what the filling call over them returns: docs/FORMATS.md, "Finding".
 -- Assumes nothing.
 use Prim.Native.Nat.{ℕ}
 use mathlib.Core.Bool.{cond}

@@ -1,4 +1,4 @@
--- What a pattern answers in a log: document 01's "The pattern" and "What the operators mean".
+-- What a pattern answers in a log: docs/FORMATS.md, "The pattern" and "What the operators mean".
 -- Assumes nothing.
 use Prim.Native.Nat.{ℕ}
 use mathlib.Core.Path.{_≡_, refl}

@@ -1,4 +1,4 @@
--- The refusals: document 01's "Signals on the board", when each applies, 1 to 9 in number order; and which a call gets, the lowest that applies.
+-- The refusals: docs/FORMATS.md, "Refusals", when each applies, 1 to 9 in number order; and which a call gets, the lowest that applies.
 -- A refusal has its number and a place, 0 but for 3; number 0: accepted.
 -- Assumes nothing.
 use Prim.Native.Nat.{ℕ, _%_}

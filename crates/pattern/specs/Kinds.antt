@@ -1,4 +1,4 @@
--- The kinds of a pattern's nodes in one list, in the document's order: whatever depends on a kind is read off it.
+-- The kinds of a pattern's nodes in one list, in the order of docs/FORMATS.md, "The pattern": whatever depends on a kind is read off it.
 -- Assumes nothing.
 use Prim.Native.Nat.{ℕ, suc, _≤_}
 use mathlib.Core.Bool.{Bool, cond}

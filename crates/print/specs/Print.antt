@@ -1,4 +1,4 @@
--- The printed sheet, byte by byte, and what writing it into a lent buffer leaves: document 01's "The printed sheet".
+-- The printed sheet, byte by byte, and what writing it into a lent buffer leaves: docs/FORMATS.md, "The printed sheet".
 -- Assumes nothing.
 use Prim.Native.Nat.{ℕ}
 use mathlib.Core.Path.{_≡_, refl}
@@ -43,7 +43,7 @@ bytesWritten sheet out = cond (leb (length sheet) (length out)) (length sheet) 0
 abbrev pub Writes : List ℕ → List ℕ → ℕ → List ℕ → Type 0
 Writes sheet out r out′ = (r ≡ bytesWritten sheet out) × (out′ ≡ writtenOver sheet out)
 
--- document 01's sheet: F,5,1,1 and 0,3
+-- the sheet of its example: F,5,1,1 and 0,3
 example-found : foundSheet 5 1 (st 0 3 ∷ []) ≡ 70 ∷ 44 ∷ 53 ∷ 44 ∷ 49 ∷ 44 ∷ 49 ∷ 10 ∷ 48 ∷ 44 ∷ 51 ∷ 10 ∷ []
 unfolding foundSheet field rows decimal digitsOf
 example-found = refl

@@ -1,4 +1,4 @@
--- The sheet of what a filling call left, of a pattern and a log, and of an input: document 01's "The printed sheet".
+-- The sheet of what a filling call left, of a pattern and a log, and of an input: docs/FORMATS.md, "The printed sheet".
 -- Assumes nothing.
 use Prim.Native.Nat.{ℕ}
 use mathlib.Core.Bool.{cond}

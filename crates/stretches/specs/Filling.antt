@@ -1,4 +1,4 @@
--- What a filling call leaves in every lent cell, and what it returns: document 01's "Finding".
+-- What a filling call leaves in every lent cell, and what it returns: docs/FORMATS.md, "The filling call".
 -- Assumes nothing.
 use Prim.Native.Nat.{ℕ, _+_, _*_, _/_}
 use mathlib.Core.Bool.{Bool}

@@ -1,5 +1,5 @@
 -- Lent lists: one run of starts and ends in turn holding the lists one after another, and one run with the place where each list ends:
--- document 01's "Finding".
+-- docs/FORMATS.md, "Lent lists".
 -- Assumes nothing.
 use Prim.Native.Nat.{ℕ, _-_}
 use mathlib.Core.List.{List, [], _∷_}

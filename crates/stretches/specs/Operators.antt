@@ -1,4 +1,4 @@
--- The operators by number, and a node's list from its operands' lists: document 01's "Finding". Assumes nothing.
+-- The operators by number, and a node's list from its operands' lists: docs/FORMATS.md, "Lent lists". Assumes nothing.
 use Prim.Native.Nat.{ℕ, zero, suc}
 use mathlib.Core.Path.{_≡_, refl}
 use mathlib.Core.List.{List, [], _∷_, map}

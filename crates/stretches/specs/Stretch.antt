@@ -1,4 +1,5 @@
--- Stretches of lines, rising lists of them, and what the six operators answer: document 001 section 3, and document 01's "What the operators mean".
+-- Stretches of lines, rising lists of them, and what the six operators answer: docs/FORMATS.md, "What the operators mean", and section 3 of
+-- Boldi and Vigna, "Efficient Optimally Lazy Algorithms for Minimal-Interval Semantics".
 -- Assumes nothing.
 use Prim.Native.Nat.{ℕ, suc, _-_, _≤_, _<_, min, max}
 use mathlib.Core.Path.{_≡_}

@@ -1,4 +1,4 @@
--- The taking call over lent lists: what it returns, and what it leaves in every count cell: document 01's "Finding".
+-- The taking call over lent lists: what it returns, and what it leaves in every count cell: docs/FORMATS.md, "Taking".
 -- Assumes nothing.
 use Prim.Native.Nat.{ℕ}
 use mathlib.Core.Bool.{true, false, cond}

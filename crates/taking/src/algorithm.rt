@@ -1,4 +1,4 @@
-// Document 001's Algorithms 2 and 3 over lent lists: the counts are kept in the lent cells, one for each list.
+// Algorithms 2 and 3 over lent lists: the counts are kept in the lent cells, one for each list.
 use crate::queue::Item;
 use crate::queue::advance;
 use crate::queue::contains;

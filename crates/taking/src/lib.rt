@@ -1,4 +1,5 @@
-// The taking call: answer number p of or or and over lent lists, as Algorithms 2 and 3 of document 001 take them, and the items taken of each list.
+// The taking call: answer number p of or or and over lent lists, and the items taken of each list, as Algorithms 2 and 3 of
+// Boldi and Vigna, "Efficient Optimally Lazy Algorithms for Minimal-Interval Semantics" take them.
 mod algorithm;
 mod queue;
 

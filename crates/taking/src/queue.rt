@@ -1,4 +1,4 @@
-// The queue of document 001's Algorithms 1 to 3 over lent lists, of each of which only the number of items taken is kept.
+// The queue of Algorithms 1 to 3 over lent lists, of each of which only the number of items taken is kept.
 use basics::least;
 use basics::most;
 use basics::wide;

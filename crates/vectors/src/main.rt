@@ -1,5 +1,6 @@
-// Runs outside examples and writes a printed sheet for each: the unmarked cases of document 01, its printed sheet, and the query of
-// Figure 1 of document 001, over a log and over lists. What it must write was derived from the documents, not by this program.
+// Runs outside examples and writes a printed sheet for each: the cases of docs/FORMATS.md, "Worked cases", that programs run, the example of its "The printed sheet",
+// and the query of Figure 1 of Boldi and Vigna, "Efficient Optimally Lazy Algorithms for Minimal-Interval Semantics",
+// over a log and over lists. What it must write was derived from the rules there, not by this program.
 use basics::first;
 use libc::STDOUT_FILENO;
 
@@ -30,7 +31,7 @@ fn show_lists(op: u32, items: &[u32], ends: &[u32]) {
     io::write_all(STDOUT_FILENO, first(&out, n));
 }
 
-// The unmarked cases of document 01.
+// The cases of docs/FORMATS.md, "Worked cases", that programs run.
 fn cases() {
     show(b"fr,10,0", b"2,4,12,10,3,0\n");
     show(b"fr,3,0", b"2,4,12,10,3,0\n");
@@ -71,7 +72,7 @@ fn printed() {
     );
 }
 
-// Figure 1 of document 001, "(hot OR cold) AND porridge AND pease": a word a line, hot, porridge, pease and cold as codes 1 to 4; then over lists.
+// Figure 1, "(hot OR cold) AND porridge AND pease": a word a line, hot, porridge, pease and cold as codes 1 to 4; then over lists.
 fn figure() {
     show(
         b"and,3,or,2,ev,1,0,ev,4,0,ev,2,0,ev,3,0",
