@@ -1,23 +1,17 @@
 //! Compares the printed sheet of a program with the reference's, byte for byte: `sheet PROGRAM`, each input through standard input.
 
 mod inputs;
+mod piped;
 mod quick;
 mod reference;
 
 use inputs::Rng;
 use reference::{LOG_MAX, PATTERN_MAX};
-use std::io::Write;
-use std::process::{Command, Stdio};
+use std::process::Command;
 
 /// What the program prints for an input.
 fn printed(program: &str, input: &[u8]) -> std::io::Result<Vec<u8>> {
-    let mut child = Command::new(program).stdin(Stdio::piped()).stdout(Stdio::piped()).spawn()?;
-    let mut pipe = child.stdin.take().unwrap();
-    let output = std::thread::scope(|scope| {
-        // A program that refuses early need not read on: a broken pipe is no fault.
-        scope.spawn(move || drop(pipe.write_all(input)));
-        child.wait_with_output()
-    })?;
+    let output = piped::output(&mut Command::new(program), input)?;
     if !output.status.success() {
         return Err(std::io::Error::other(format!("ended with {}", output.status)));
     }

@@ -1,0 +1,138 @@
+//! What is printed of answers, refusals and logs.
+
+use crate::calls::{self, Count, Refusal, Stretch, LOG_MAX, PATTERN_MAX};
+use crate::input::{Log, Titled};
+use crate::options::Form;
+use crate::paint::{Paint, BOLD, CYAN, RED, YELLOW};
+use crate::text::{grouped, lines, of, pointed, prose, safe, stretches};
+use crate::Fault;
+use std::io::{self, Write};
+
+/// A refusal in words, with value and limit.
+pub fn refusal(refusal: Refusal, pattern: &[u8], log: &Log) -> String {
+    let at_most = |limit: usize| format!("at most {}", grouped(limit as u64));
+    let why = match refusal {
+        Refusal::LongLog => format!("long log: {}, {}", log.length(), at_most(LOG_MAX)),
+        Refusal::LongPattern => format!("long pattern: {} bytes, {}", grouped(pattern.len() as u64), at_most(PATTERN_MAX)),
+        Refusal::Misspelt { place } if place == pattern.len() => {
+            format!("misspelt: it ends too soon, after {}", of(place, "byte", "bytes"))
+        }
+        Refusal::Misspelt { place } => format!("misspelt after {}", of(place, "byte", "bytes")),
+        Refusal::Crowded => "crowded: more than 32 nodes".into(),
+        Refusal::Deep => "deep: more than 8 deep".into(),
+    };
+    format!("refused: {why}")
+}
+
+/// The same for standard error: a misspelt pattern below it, with a caret under the place.
+pub fn refusal_pointed(reason: Refusal, pattern: &[u8], log: &Log) -> String {
+    let paint = Paint::for_stream(&io::stderr());
+    let words = paint.paint(RED, &refusal(reason, pattern, log));
+    match reason {
+        Refusal::Misspelt { place } => {
+            let (shown, caret) = pointed(pattern, place);
+            format!("{words}\n{shown}\n{}", paint.paint(RED, &caret))
+        }
+        _ => words,
+    }
+}
+
+/// The warning of a log whose every line is damaged, with a hint where carriage returns are the reason.
+pub fn warning(log: &[u8], count: &Count) -> Option<String> {
+    if count.lines == 0 || count.damaged < count.lines {
+        return None;
+    }
+    let returns = calls::each_line(log).filter(|line| sound_without_return(line)).count();
+    let hint = match returns {
+        0 => String::new(),
+        1 => "; 1 would be sound without the carriage return at its end (tr -d '\\r' takes it away)".into(),
+        _ => format!("; {} would be sound without the carriage return at their end (tr -d '\\r' takes it away)", grouped(returns as u64)),
+    };
+    Some(format!("warning: every line of the log is damaged{hint}"))
+}
+
+fn sound_without_return(line: &[u8]) -> bool {
+    line.strip_suffix(b"\r\n").is_some_and(|text| calls::sound(&[text, b"\n"].concat()))
+}
+
+/// Prints answers over one log.
+pub struct Report<'a> {
+    pub log: &'a [u8],
+    pub count: Count,
+    pub form: Form,
+    pub paint: Paint,
+    pub out: Box<dyn Write>,
+}
+
+impl Report<'_> {
+    /// The answer to the only pattern.
+    pub fn answer(&mut self, found: &[Stretch]) -> Result<(), Fault> {
+        if self.form == Form::Count {
+            return Ok(writeln!(self.out, "{}", found.len())?);
+        }
+        let first = format!("{}; {}", self.log_in_words(), stretches(found.len()));
+        writeln!(self.out, "{} (lines count from 0)", self.paint.paint(BOLD, &first))?;
+        self.list(found)
+    }
+
+    /// The first line of answers to several patterns.
+    pub fn heading(&mut self) -> Result<(), Fault> {
+        if self.form == Form::Count {
+            return Ok(());
+        }
+        Ok(writeln!(self.out, "{} (lines count from 0)\n", self.paint.paint(BOLD, &self.log_in_words()))?)
+    }
+
+    /// A pattern below its title, before its answer.
+    pub fn title(&mut self, titled: &Titled) -> Result<(), Fault> {
+        for line in &titled.title {
+            writeln!(self.out, "{}", self.paint.paint(BOLD, &prose(line)))?;
+        }
+        Ok(writeln!(self.out, "{}", safe(&titled.pattern))?)
+    }
+
+    pub fn answer_titled(&mut self, found: &[Stretch]) -> Result<(), Fault> {
+        writeln!(self.out, "{}", stretches(found.len()))?;
+        if self.form == Form::Count {
+            Ok(())
+        } else {
+            self.list(found)
+        }
+    }
+
+    fn log_in_words(&self) -> String {
+        let unended = if self.log.is_empty() || self.log.ends_with(b"\n") { "" } else { " (the last line has no line feed)" };
+        format!("{}, {} damaged{unended}", lines(self.count.lines), grouped(self.count.damaged as u64))
+    }
+
+    fn list(&mut self, found: &[Stretch]) -> Result<(), Fault> {
+        for &stretch in found {
+            let ends = self.paint.paint(CYAN, &format!("{}..{}", stretch.first, stretch.last));
+            writeln!(self.out, "{ends} ({})", lines(stretch.lines()))?;
+            if self.form == Form::Show {
+                self.show(stretch)?;
+            }
+        }
+        Ok(())
+    }
+
+    /// The lines of a stretch, numbered, damaged ones marked.
+    fn show(&mut self, stretch: Stretch) -> Result<(), Fault> {
+        let mut number = stretch.first;
+        for line in calls::each_line(calls::lines_of(self.log, stretch)) {
+            let text = line.strip_suffix(b"\n").unwrap_or(line);
+            let mark = match (calls::sound(line), text.is_empty()) {
+                (true, _) => "",
+                (false, true) => "damaged, empty",
+                (false, false) => "damaged: ",
+            };
+            writeln!(self.out, "{number:8}  {}{}", self.paint.paint(YELLOW, mark), safe(text))?;
+            number += 1;
+        }
+        if number == stretch.last + 1 {
+            Ok(())
+        } else {
+            Err(Fault::Failed("internal error: a stretch lacks lines".into()))
+        }
+    }
+}

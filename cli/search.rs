@@ -1,0 +1,123 @@
+//! The searches that the command line can ask for; each gives the exit status.
+
+use crate::calls::{self, Count, Refusal, Unanswered};
+use crate::input::{read_log, read_patterns, Log, Source, Titled};
+use crate::options::{Form, Patterns, Search};
+use crate::paint::Paint;
+use crate::progress::Progress;
+use crate::report::{refusal, refusal_pointed, warning, Report};
+use crate::text::grouped;
+use crate::{say, sheet, tell, Fault, FAILED, FOUND, NOTHING};
+use std::io::{self, IsTerminal, Write};
+
+pub fn run(search: &Search) -> Result<u8, Fault> {
+    match &search.patterns {
+        Patterns::Given(pattern) if search.form == Form::Sheet => printed_sheet(pattern, &read_log(&search.log)?),
+        Patterns::Given(pattern) => {
+            let log = read_log(&search.log)?;
+            counted(&log, |count| one(pattern, &log, count, search.form))
+        }
+        Patterns::From(source) => {
+            let patterns = read_patterns(source)?;
+            let log = read_log(&search.log)?;
+            counted(&log, |count| several(&patterns, source, &log, count, search.form))
+        }
+    }
+}
+
+/// Searches a log that is not too long.
+fn counted(log: &Log, search: impl FnOnce(Count) -> Result<u8, Fault>) -> Result<u8, Fault> {
+    match judged(calls::count(&log.bytes))? {
+        Ok(count) => search(count),
+        Err(reason) => refused(reason, &[], log),
+    }
+}
+
+/// A refusal told from a result that the promises rule out.
+fn judged<T>(answer: Result<T, Unanswered>) -> Result<Result<T, Refusal>, Fault> {
+    match answer {
+        Ok(answer) => Ok(Ok(answer)),
+        Err(Unanswered::Refused(reason)) => Ok(Err(reason)),
+        Err(Unanswered::Broken(why)) => Err(Fault::Failed(format!("internal error: {why}"))),
+    }
+}
+
+fn refused(reason: Refusal, pattern: &[u8], log: &Log) -> Result<u8, Fault> {
+    tell(&refusal_pointed(reason, pattern, log));
+    Ok(FAILED)
+}
+
+fn status(found: usize) -> u8 {
+    if found > 0 {
+        FOUND
+    } else {
+        NOTHING
+    }
+}
+
+/// A report over a log, after the warning of it if there is one.
+fn report(log: &[u8], count: Count, form: Form) -> Result<Report<'_>, Fault> {
+    if let Some(warning) = warning(log, &count) {
+        say(&warning);
+    }
+    let out: Box<dyn Write> = if form == Form::Quiet { Box::new(io::sink()) } else { crate::output()? };
+    Ok(Report { log, count, form, paint: Paint::for_stream(&io::stdout()), out })
+}
+
+fn one(pattern: &[u8], log: &Log, count: Count, form: Form) -> Result<u8, Fault> {
+    let found = match judged(calls::stretches(pattern, &log.bytes, count.lines))? {
+        Ok(found) => found,
+        Err(reason) => return refused(reason, pattern, log),
+    };
+    let mut report = report(&log.bytes, count, form)?;
+    report.answer(&found)?;
+    report.out.flush()?;
+    Ok(status(found.len()))
+}
+
+fn several(patterns: &[Titled], source: &Source, log: &Log, count: Count, form: Form) -> Result<u8, Fault> {
+    let mut report = report(&log.bytes, count, form)?;
+    let all = grouped(patterns.len() as u64);
+    let progress = Progress::start(!io::stdout().is_terminal(), move |done| format!("searching: {} of {all} patterns done", grouped(done)));
+    let mut statuses = Vec::new();
+    report.heading()?;
+    for (done, titled) in (0..).zip(patterns) {
+        progress.at(done);
+        if done > 0 {
+            writeln!(report.out)?;
+        }
+        report.title(titled)?;
+        statuses.push(match judged(calls::stretches(&titled.pattern, &log.bytes, report.count.lines))? {
+            Ok(found) => {
+                report.answer_titled(&found)?;
+                status(found.len())
+            }
+            Err(reason) => {
+                writeln!(report.out, "{}", refusal(reason, &titled.pattern, log))?;
+                report.out.flush()?;
+                progress.tell(&format!("{}, line {}: {}", source.name(), titled.line, refusal_pointed(reason, &titled.pattern, log)));
+                FAILED
+            }
+        });
+    }
+    report.out.flush()?;
+    Ok([FAILED, FOUND].into_iter().find(|status| statuses.contains(status)).unwrap_or(NOTHING))
+}
+
+fn printed_sheet(pattern: &[u8], log: &Log) -> Result<u8, Fault> {
+    // The program would read what follows a line feed as log.
+    if pattern.contains(&b'\n') {
+        return match judged(calls::stretches(pattern, &log.bytes, 0))? {
+            Ok(_) => Err(Fault::Failed("internal error: a pattern of two lines".into())),
+            Err(reason) => refused(reason, pattern, log),
+        };
+    }
+    let (printed, said) = sheet::print(pattern, &log.bytes)?;
+    let mut out = crate::output()?;
+    out.write_all(&printed)?;
+    out.flush()?;
+    Ok(match said {
+        sheet::Said::Refused => FAILED,
+        sheet::Said::Found(answers) => status(answers),
+    })
+}
