@@ -15,12 +15,11 @@ use Rattle.stretches.specs.Table.{kindAt, firstAt, secondAt, stopOf}
 use Rattle.stretches.specs.inner.Operands.{operandsOf}
 use Rattle.stretches.specs.Stretch as op
 use Rattle.stretches.specs.Front as fronts
-use Rattle.stretches.proofs.Answers.{cand-sound}
+use Rattle.stretches.proofs.Answers.{Cand, cand-sound}
 use Rattle.stretches.proofs.InRun.{cand-below}
 use Rattle.stretches.proofs.Fine.{AllFine}
 use Rattle.stretches.proofs.Fronts.{FirstIs, first-good, first-is, first-none}
 use Rattle.stretches.proofs.Table.{list-node, all-operands, fine-list}
-use Rattle.stretches.proofs.Tight.{Tight}
 use Rattle.marks.specs.Row.{row}
 use Rattle.seek.specs.Source.{Source, measured, lent, ownList, given, listOver, Good}
 use Rattle.seek.specs.First.{noneF, front, first}
@@ -112,10 +111,10 @@ pub record Narrowing (src : Source) (rows : List ℕ) (v : ℕ) : Type 0 where
   pub tight : (t : ℕ) → TightLook op ls t (look src rows v t)
 
 -- a candidate lies below line 65,536
-pub small-cand : (o : Op) (ls : List (List Stretch)) → AllFine 65536 ls → (s e t : ℕ) → Tight o ls t s e → (s < 65536) × (e < 65536)
-small-cand o ls f s e t h =
-    let a = cand-sound o ls (f .sound) s e (h .cand) in
-    let b = cand-below o 65536 ls (f .below) s e (h .cand) in
+pub small-cand : (o : Op) (ls : List (List Stretch)) → AllFine 65536 ls → (s e : ℕ) → Cand o ls s e → (s < 65536) × (e < 65536)
+small-cand o ls f s e c =
+    let a = cand-sound o ls (f .sound) s e c in
+    let b = cand-below o 65536 ls (f .below) s e c in
     (omega arith, b)
 
 module _ (src : Source) (rows : List ℕ) (good : Good src rows) (v : ℕ) (lv : v < 32) where
@@ -148,7 +147,7 @@ module _ (src : Source) (rows : List ℕ) (good : Good src rows) (v : ℕ) (lv :
     tight = λ t. subst (TightLook op.Then (operandsOf (given src rows) rows v) t) (sym (look-kind 4 t k)) (then-tight-look (operandsOf (given src rows) rows v) (fine-operands src rows good v lv) t);
   }
 
-  -- ── row and the filters: looks to be kept or passed over ──
+  -- ── row and the filters: looks that are good or passed over ──
 
   row-skip-look : (ls : List (List Stretch)) → AllFine 65536 ls → (t : ℕ) → SkipLook (answers op.Row ls) t (lookBy src 3 (firstAt rows v) ls t)
   row-skip-look [] f t = k-none refl

@@ -3,14 +3,32 @@ use mathlib.Core.Logic.{_⊎_, inl, inr}
 use mathlib.Core.Path.{_≡_, refl}
 use Prim.Native.Nat.{ℕ, zero, suc, _<_}
 use native.Mathlib.Omega.{arith}
+use Rattle.seek.specs.inner.Looks.{Chains, Narrows, Skips}
 
--- what is no operator's number
-pub none-left : (k : ℕ) → (k ≡ 1 → ⊥) → (k ≡ 2 → ⊥) → (k ≡ 3 → ⊥) → (k ≡ 4 → ⊥) → (k ≡ 5 → ⊥) → (k ≡ 6 → ⊥) → (k ≡ 0) ⊎ (6 < k)
-none-left zero a b c d e f = inl refl
-none-left (suc zero) a b c d e f = absurd (a refl)
-none-left (suc (suc zero)) a b c d e f = absurd (b refl)
-none-left (suc (suc (suc zero))) a b c d e f = absurd (c refl)
-none-left (suc (suc (suc (suc zero)))) a b c d e f = absurd (d refl)
-none-left (suc (suc (suc (suc (suc zero))))) a b c d e f = absurd (e refl)
-none-left (suc (suc (suc (suc (suc (suc zero)))))) a b c d e f = absurd (f refl)
-none-left (suc (suc (suc (suc (suc (suc (suc k))))))) a b c d e f = inr (omega arith)
+-- an operator but `or` narrows or skips, and none does both
+pub operator : (k : ℕ) → 1 < k → k < 7 → Narrows k ⊎ Skips k
+operator zero a b = absurd (omega arith)
+operator (suc zero) a b = absurd (omega arith)
+operator (suc (suc zero)) a b = inl (inl refl)
+operator (suc (suc (suc zero))) a b = inr (inl refl)
+operator (suc (suc (suc (suc zero)))) a b = inl (inr refl)
+operator (suc (suc (suc (suc (suc zero))))) a b = inr (inr (inl refl))
+operator (suc (suc (suc (suc (suc (suc zero)))))) a b = inr (inr (inr refl))
+operator (suc (suc (suc (suc (suc (suc (suc k))))))) a b = absurd (omega arith)
+
+pub apart : (k : ℕ) → Narrows k → Skips k → ⊥
+apart k (inl a) (inl b) = omega arith
+apart k (inl a) (inr (inl b)) = omega arith
+apart k (inl a) (inr (inr b)) = omega arith
+apart k (inr a) (inl b) = omega arith
+apart k (inr a) (inr (inl b)) = omega arith
+apart k (inr a) (inr (inr b)) = omega arith
+
+-- an operator before `less` but `or` and `and` is a chain
+pub chains : (k : ℕ) → 1 < k → (k ≡ 2 → ⊥) → k < 5 → Chains k
+chains zero a b c = absurd (omega arith)
+chains (suc zero) a b c = absurd (omega arith)
+chains (suc (suc zero)) a b c = absurd (b refl)
+chains (suc (suc (suc zero))) a b c = inl refl
+chains (suc (suc (suc (suc zero)))) a b c = inr refl
+chains (suc (suc (suc (suc (suc k))))) a b c = absurd (omega arith)

@@ -14,10 +14,9 @@ use Rattle.stretches.specs.Table.{kindAt, firstAt, nextOf, stopOf}
 use Rattle.stretches.specs.inner.Operands.{operandsFrom, operandsOf}
 use Rattle.stretches.proofs.Table.{stop-most, from-more, from-end}
 use Rattle.seek.specs.declared.Front.{Front}
-use Rattle.seek.specs.declared.fronts.Look.{Look}
 use Rattle.seek.specs.Source.{Source, measured, given, listOver, Good}
 use Rattle.seek.specs.First.{atF, noneF, front, first, Ready}
-use Rattle.seek.specs.inner.Fronts.{pastOf, lookOf, noLook, goF, betterOf}
+use Rattle.seek.specs.inner.Fronts.{pastOf, badF, kept, goF, betterOf}
 use Rattle.seek.specs.inner.Looks.{spanFrom, chainFrom, clears, passes, others, lookBy, look, Sought, Looked, Passed, Tested, Chains, Filters}
 use Rattle.seek.proofs.Best.{bestFrom, or-look}
 use Rattle.seek.proofs.Nodes.{fine-operands, or-list, look-kind}
@@ -73,16 +72,16 @@ or-end {src} {rows} {s₀} {v} {t} {s} {c} {best} inv le k = record {
 
 -- ── Looks ──
 
-go-some : (f : Front) (k : Front → Look) → f .start < 65536 → goF f k ≡ k f
+go-some : (f : Front) (k : Front → Front) → f .start < 65536 → goF f k ≡ k f
 unfolding goF
-go-some f k e = ap (λ b. cond b (k f) noLook) (lt-ltb (f .start) 65536 e)
+go-some f k e = ap (λ b. cond b (k f) noneF) (lt-ltb (f .start) 65536 e)
 
-go-none : (f : Front) (k : Front → Look) → 65536 ≤ f .start → goF f k ≡ noLook
+go-none : (f : Front) (k : Front → Front) → 65536 ≤ f .start → goF f k ≡ noneF
 unfolding goF
-go-none f k n = ap (λ b. cond b (k f) noLook) (le-ltb (f .start) 65536 n)
+go-none f k n = ap (λ b. cond b (k f) noneF) (le-ltb (f .start) 65536 n)
 
 -- a node without operands
-pub look-none : {src : Source} {rows s : List ℕ} {v t : ℕ} {r : Look} → stopOf rows v ≤ v + 1 → r ≡ noLook → Looked src rows s v t r s
+pub look-none : {src : Source} {rows s : List ℕ} {v t : ℕ} {r : Front} → stopOf rows v ≤ v + 1 → r ≡ noneF → Looked src rows s v t r s
 unfolding look
 look-none {src} {rows} {s} {v} {t} le e = record {
   seen = λ good rdy. record { is = e ∙ sym (ap (λ (ls : List (List Stretch)). lookBy src (kindAt rows v) (firstAt rows v) ls t) (left-end src rows v (v + 1) le)); ready = rdy };
@@ -126,12 +125,12 @@ module _ {src : Source} {rows s₀ : List ℕ} {v t : ℕ} {s s' : List ℕ} {m 
         );
   }
 
-  pub span-gone : {r : Look} → 65536 ≤ f .start → r ≡ noLook → kindAt rows v ≡ 2 → Looked src rows s₀ v t r s'
+  pub span-gone : {r : Front} → 65536 ≤ f .start → r ≡ noneF → kindAt rows v ≡ 2 → Looked src rows s₀ v t r s'
   span-gone n er k = record {
     seen = λ good rdy. let i = span-step k good rdy in record { is = er ∙ (sym (go-none f (λ x. spanFrom t (atF (min m (x .start)) (max e (x .end))) (left src rows v (nextOf rows c))) n) ∙ i .1); ready = i .0 };
   }
 
-pub span-end : {src : Source} {rows s₀ : List ℕ} {v t : ℕ} {s : List ℕ} {m e c : ℕ} {r : Look} → SpanInv src rows s₀ v t s m e c → stopOf rows v ≤ c → r ≡ lookOf m e true → kindAt rows v ≡ 2
+pub span-end : {src : Source} {rows s₀ : List ℕ} {v t : ℕ} {s : List ℕ} {m e c : ℕ} {r : Front} → SpanInv src rows s₀ v t s m e c → stopOf rows v ≤ c → r ≡ atF m e → kindAt rows v ≡ 2
     → Looked src rows s₀ v t r s
 unfolding spanFrom
 span-end {src} {rows} {s₀} {v} {t} {s} {m} {e} {c} inv le er k = record {
@@ -163,7 +162,7 @@ module _ {src : Source} {rows s s₁ : List ℕ} {v t : ℕ} {a : Front} (lv : v
           ap (λ b. goF (front (firstFrom (listOver src rows (v + 1)) t)) (λ f. chainFrom b (f .start) (f .end) (left src rows v (nextOf rows (v + 1))))) (ne-eqb (kindAt rows v) 3 (λ z. omega arith))
           ∙ sym (look-kind src rows good v lv 4 t k ∙ ap (λ (ls : List (List Stretch)). lookBy src 4 (firstAt rows v) ls t) z)
 
-  pub chain-gone : {r : Look} → 65536 ≤ a .start → r ≡ noLook → Chains (kindAt rows v) → Looked src rows s v t r s₁
+  pub chain-gone : {r : Front} → 65536 ≤ a .start → r ≡ noneF → Chains (kindAt rows v) → Looked src rows s v t r s₁
   chain-gone n er k = record {
     seen = λ good rdy. let i = chain-first k good rdy in record { is = er ∙ (sym (go-none a (λ f. chainFrom (tightAt rows v) (f .start) (f .end) (left src rows v (nextOf rows (v + 1)))) n) ∙ i .1); ready = i .0 };
   }
@@ -186,25 +185,25 @@ module _ {src : Source} {rows s₁ : List ℕ} {v t m e₁ : ℕ} {s s' : List �
     (lv : v < 32) (inv : ChainInv src rows s₁ v t m e₁ s e c) (lt : c < stopOf rows v) (et : to ≡ pastOf e) (w : Sought src rows s c to f s') where
   -- the chain goes on with the front at c
   chain-step : Good src rows → Ready src rows s₁ → chainFrom (tightAt rows v) m e₁ (left src rows v (nextOf rows (v + 1))) ≡ look src rows v t
-      → Ready src rows s' × (goF f (λ x. cond (tightAt rows v && not (eqb (x .start) to)) (lookOf m e false) (chainFrom (tightAt rows v) m (x .end) (left src rows v (nextOf rows c)))) ≡ look src rows v t)
+      → Ready src rows s' × (goF f (λ x. cond (tightAt rows v && not (eqb (x .start) to)) (badF m) (chainFrom (tightAt rows v) m (x .end) (left src rows v (nextOf rows c)))) ≡ look src rows v t)
   unfolding chainFrom first
   chain-step good rdy i₁ =
       let i = inv .at good rdy i₁ in
       let g = w .found good (i .0) in (
         g .ready,
-        ap (λ (y : Front). goF y (λ x. cond (tightAt rows v && not (eqb (x .start) to)) (lookOf m e false) (chainFrom (tightAt rows v) m (x .end) (left src rows v (nextOf rows c))))) (g .is)
-            ∙ ap (λ (n : ℕ). goF (front (firstFrom (listOver src rows c) n)) (λ x. cond (tightAt rows v && not (eqb (x .start) n)) (lookOf m e false) (chainFrom (tightAt rows v) m (x .end) (left src rows v (nextOf rows c))))) et
+        ap (λ (y : Front). goF y (λ x. cond (tightAt rows v && not (eqb (x .start) to)) (badF m) (chainFrom (tightAt rows v) m (x .end) (left src rows v (nextOf rows c))))) (g .is)
+            ∙ ap (λ (n : ℕ). goF (front (firstFrom (listOver src rows c) n)) (λ x. cond (tightAt rows v && not (eqb (x .start) n)) (badF m) (chainFrom (tightAt rows v) m (x .end) (left src rows v (nextOf rows c))))) et
             ∙ (sym (ap (chainFrom (tightAt rows v) m e) (left-more src rows v c lv lt)) ∙ i .1),
       )
 
   module _ (one : f .start < 65536) where
     chain-over : (b : Bool) → (tightAt rows v && not (eqb (f .start) to)) ≡ b → Good src rows → Ready src rows s₁ → chainFrom (tightAt rows v) m e₁ (left src rows v (nextOf rows (v + 1))) ≡ look src rows v t
-        → Ready src rows s' × (cond b (lookOf m e false) (chainFrom (tightAt rows v) m (f .end) (left src rows v (nextOf rows c))) ≡ look src rows v t)
+        → Ready src rows s' × (cond b (badF m) (chainFrom (tightAt rows v) m (f .end) (left src rows v (nextOf rows c))) ≡ look src rows v t)
     chain-over b eb good rdy i₁ =
         let i = chain-step good rdy i₁ in (
           i .0,
-          sym (ap (λ b. cond b (lookOf m e false) (chainFrom (tightAt rows v) m (f .end) (left src rows v (nextOf rows c)))) eb)
-              ∙ (sym (go-some f (λ x. cond (tightAt rows v && not (eqb (x .start) to)) (lookOf m e false) (chainFrom (tightAt rows v) m (x .end) (left src rows v (nextOf rows c)))) one) ∙ i .1),
+          sym (ap (λ b. cond b (badF m) (chainFrom (tightAt rows v) m (f .end) (left src rows v (nextOf rows c)))) eb)
+              ∙ (sym (go-some f (λ x. cond (tightAt rows v && not (eqb (x .start) to)) (badF m) (chainFrom (tightAt rows v) m (x .end) (left src rows v (nextOf rows c)))) one) ∙ i .1),
         )
 
     pub chain-turn : {c' : ℕ} → (tightAt rows v && not (eqb (f .start) to)) ≡ false → c' ≡ nextOf rows c → ChainInv src rows s₁ v t m e₁ s' (f .end) c'
@@ -213,7 +212,7 @@ module _ {src : Source} {rows s₁ : List ℕ} {v t m e₁ : ℕ} {s s' : List �
 -- the ways out of the chain, from the state at entry
 module _ {src : Source} {rows s₀ s₁ : List ℕ} {v t : ℕ} {a : Front} (lv : v < 32) (some : v + 1 < stopOf rows v) (w₀ : Sought src rows s₀ (v + 1) t a s₁) (one₀ : a .start < 65536)
     {s : List ℕ} {e c : ℕ} (inv : ChainInv src rows s₁ v t (a .start) (a .end) s e c) (k : Chains (kindAt rows v)) where
-  pub chain-end : {r : Look} → stopOf rows v ≤ c → r ≡ lookOf (a .start) e true → Looked src rows s₀ v t r s
+  pub chain-end : {r : Front} → stopOf rows v ≤ c → r ≡ atF (a .start) e → Looked src rows s₀ v t r s
   unfolding chainFrom
   chain-end le er = record {
     seen = λ good rdy.
@@ -223,18 +222,18 @@ module _ {src : Source} {rows s₀ s₁ : List ℕ} {v t : ℕ} {a : Front} (lv 
   }
 
   module _ {s' : List ℕ} {to : ℕ} {f : Front} (lt : c < stopOf rows v) (et : to ≡ pastOf e) (w : Sought src rows s c to f s') where
-    pub chain-stop : {r : Look} → 65536 ≤ f .start → r ≡ noLook → Looked src rows s₀ v t r s'
+    pub chain-stop : {r : Front} → 65536 ≤ f .start → r ≡ noneF → Looked src rows s₀ v t r s'
     chain-stop n er = record {
       seen = λ good rdy.
           let i₀ = chain-some lv some w₀ one₀ k good rdy in
           let i = chain-step lv inv lt et w good (i₀ .0) (i₀ .1) in
           record {
-            is = er ∙ (sym (go-none f (λ x. cond (tightAt rows v && not (eqb (x .start) to)) (lookOf (a .start) e false) (chainFrom (tightAt rows v) (a .start) (x .end) (left src rows v (nextOf rows c)))) n) ∙ i .1);
+            is = er ∙ (sym (go-none f (λ x. cond (tightAt rows v && not (eqb (x .start) to)) (badF (a .start)) (chainFrom (tightAt rows v) (a .start) (x .end) (left src rows v (nextOf rows c)))) n) ∙ i .1);
             ready = i .0;
           };
     }
 
-    pub chain-break : {r : Look} → f .start < 65536 → (tightAt rows v && not (eqb (f .start) to)) ≡ true → r ≡ lookOf (a .start) e false → Looked src rows s₀ v t r s'
+    pub chain-break : {r : Front} → f .start < 65536 → (tightAt rows v && not (eqb (f .start) to)) ≡ true → r ≡ badF (a .start) → Looked src rows s₀ v t r s'
     chain-break one eb er = record {
       seen = λ good rdy.
           let i₀ = chain-some lv some w₀ one₀ k good rdy in
@@ -280,32 +279,31 @@ module _ {src : Source} {rows : List ℕ} {v : ℕ} {a : Front} (lv : v < 32) (s
 module _ {src : Source} {rows s s₁ : List ℕ} {v t : ℕ} {a : Front} (lv : v < 32) (some : v + 1 < stopOf rows v) (w : Sought src rows s (v + 1) t a s₁) where
   -- a look begins with the first operand's front
   filter-first : Filters (kindAt rows v) → Good src rows → Ready src rows s
-      → Ready src rows s₁ × (goF a (λ f. lookOf (f .start) (f .end) (passes src (kindAt rows v) (firstAt rows v) (others (operandsOf (given src rows) rows v)) f)) ≡ look src rows v t)
+      → Ready src rows s₁ × (goF a (λ f. kept f (passes src (kindAt rows v) (firstAt rows v) (others (operandsOf (given src rows) rows v)) f)) ≡ look src rows v t)
   unfolding first look
   filter-first k good rdy =
       let g = w .found good rdy in
       let z = left-more src rows v (v + 1) lv some in (
         g .ready,
-        ap (λ (x : Front). goF x (λ f. lookOf (f .start) (f .end) (passes src (kindAt rows v) (firstAt rows v) (others (operandsOf (given src rows) rows v)) f))) (g .is)
-            ∙ ap (λ (ls : List (List Stretch)). goF (front (firstFrom (listOver src rows (v + 1)) t)) (λ f. lookOf (f .start) (f .end) (passes src (kindAt rows v) (firstAt rows v) (others ls) f))) z
+        ap (λ (x : Front). goF x (λ f. kept f (passes src (kindAt rows v) (firstAt rows v) (others (operandsOf (given src rows) rows v)) f))) (g .is)
+            ∙ ap (λ (ls : List (List Stretch)). goF (front (firstFrom (listOver src rows (v + 1)) t)) (λ f. kept f (passes src (kindAt rows v) (firstAt rows v) (others ls) f))) z
             ∙ sym (ap (λ (ls : List (List Stretch)). lookBy src (kindAt rows v) (firstAt rows v) ls t) z ∙ simp (ne-eqb (kindAt rows v) 2 (k .0), ne-eqb (kindAt rows v) 3 (k .1), ne-eqb (kindAt rows v) 4 (k .2))),
       )
 
-  pub filter-gone : {r : Look} → 65536 ≤ a .start → r ≡ noLook → Filters (kindAt rows v) → Looked src rows s v t r s₁
+  pub filter-gone : {r : Front} → 65536 ≤ a .start → r ≡ noneF → Filters (kindAt rows v) → Looked src rows s v t r s₁
   filter-gone n er k = record {
     seen = λ good rdy.
         let i = filter-first k good rdy in
-        record { is = er ∙ (sym (go-none a (λ f. lookOf (f .start) (f .end) (passes src (kindAt rows v) (firstAt rows v) (others (operandsOf (given src rows) rows v)) f)) n) ∙ i .1); ready = i .0 };
+        record { is = er ∙ (sym (go-none a (λ f. kept f (passes src (kindAt rows v) (firstAt rows v) (others (operandsOf (given src rows) rows v)) f)) n) ∙ i .1); ready = i .0 };
   }
 
-  pub filter-done : {s' : List ℕ} {b : Bool} {r : Look} → a .start < 65536 → Tested src rows s₁ v a b s' → r ≡ lookOf (a .start) (a .end) b → Filters (kindAt rows v) → Looked src rows s v t r s'
-  filter-done one p er k = record {
+  pub filter-done : {s' : List ℕ} {b b' : Bool} {r : Front} → a .start < 65536 → Tested src rows s₁ v a b s' → b ≡ b' → r ≡ kept a b' → Filters (kindAt rows v) → Looked src rows s v t r s'
+  filter-done one p eb er k = record {
     seen = λ good rdy.
         let i = filter-first k good rdy in
         let g = p .passed good (i .0) in
         record {
-          is = er ∙ ap (lookOf (a .start) (a .end)) (g .is)
-              ∙ (sym (go-some a (λ f. lookOf (f .start) (f .end) (passes src (kindAt rows v) (firstAt rows v) (others (operandsOf (given src rows) rows v)) f)) one) ∙ i .1);
+          is = er ∙ ap (kept a) (sym eb ∙ g .is) ∙ (sym (go-some a (λ f. kept f (passes src (kindAt rows v) (firstAt rows v) (others (operandsOf (given src rows) rows v)) f)) one) ∙ i .1);
           ready = g .ready;
         };
   }

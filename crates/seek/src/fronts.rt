@@ -1,4 +1,4 @@
-// Fronts, looks and what is kept of a node: small steps.
+// Fronts and what is kept of a node: small steps.
 use crate::Front;
 use crate::NONE;
 use crate::STATE;
@@ -10,14 +10,7 @@ ghost use lib.Dec.{eqb};
 ghost use Rattle.stretches.specs.Stretch.{st};
 ghost use Rattle.seek.specs.Source.{measured, source};
 ghost use Rattle.seek.specs.First.{noneF, atF};
-ghost use Rattle.seek.specs.inner.Fronts.{pastOf, noLook, lookOf, betterOf, Serves, putAt};
-
-// A front that may have to be passed over: good where it need not.
-pub struct Look {
-    pub start: u32,
-    pub end: u32,
-    pub good: bool,
-}
+ghost use Rattle.seek.specs.inner.Fronts.{pastOf, betterOf, Serves, putAt};
 
 pub(crate) fn at(start: u32, end: u32) -> Front
     ensures { λ r. ⌜ r ≡ atF start end ⌝ }
@@ -31,22 +24,6 @@ pub(crate) fn none() -> Front
     Front {
         start: NONE,
         end: NONE,
-    }
-}
-
-pub(crate) fn look_of(start: u32, end: u32, good: bool) -> Look
-    ensures { λ r. ⌜ r ≡ lookOf start end good ⌝ }
-{
-    Look { start, end, good }
-}
-
-pub(crate) fn no_look() -> Look
-    ensures { λ r. ⌜ r ≡ noLook ⌝ }
-{
-    Look {
-        start: NONE,
-        end: NONE,
-        good: false,
     }
 }
 

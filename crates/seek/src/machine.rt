@@ -1,15 +1,14 @@
 // The machine: node v brought to its first stretch that starts at or after t. The calls go round: a node seeks its operands, whose numbers are
-// higher than its own.
+// higher than its own. A look is what an operator offers first from a line on: a front, but one that ends at line 65,536 is no good and is passed over.
+//
+// Of a look there is one call, and of each kind of look: the compiler can then make one function of them all, which hands a slice on only to itself.
 use crate::Front;
 use crate::NONE;
 use crate::STATE;
-use crate::fronts::Look;
 use crate::fronts::at;
 use crate::fronts::better;
 use crate::fronts::breaks;
-use crate::fronts::look_of;
 use crate::fronts::measure;
-use crate::fronts::no_look;
 use crate::fronts::none;
 use crate::fronts::past;
 use crate::fronts::put_front;
@@ -31,10 +30,12 @@ use nodes::THEN;
 use nodes::next_of;
 use nodes::stop_of;
 ghost use mathlib.Core.Path.{_≡_};
-ghost use Prim.Native.Nat.{_+_, _<_};
+ghost use mathlib.Core.Bool.{true, false};
+ghost use mathlib.Core.Logic.{_⊎_};
+ghost use Prim.Native.Nat.{_+_, _≤_, _<_};
 ghost use Rattle.stretches.specs.Table.{kindAt, stopOf};
 ghost use Rattle.seek.specs.Source.{source};
-ghost use Rattle.seek.specs.inner.Looks.{Chains, Narrows, Filters, Skips, Sought, Looked, Tested};
+ghost use Rattle.seek.specs.inner.Looks.{Chains, Narrows, Filters, Sought, Looked, Tested};
 
 // `or`: the best of the operands' fronts.
 fn seek_or(
@@ -67,7 +68,7 @@ fn span(
     st: &mut [u32; STATE],
     v: usize,
     t: u32,
-) -> Look
+) -> Front
     requires { ⌜ (v < 32) × (v + 1 < stopOf (now rows) v) ⌝ }
     ensures { λ r. ⌜ (kindAt (now (rows .entry)) v ≡ 2 → Looked (source (now (words .entry)) (now (items .entry))) (now (rows .entry)) (now (st .entry)) v t r (now (st .exit))) ⌝ }
 {
@@ -78,13 +79,13 @@ fn span(
     while c < stop {
         let f = seek(rows, words, items, st, c, t);
         if NONE <= f.start {
-            return no_look();
+            return none();
         }
         s = least(s, f.start);
         e = most(e, f.end);
         c = next_of(rows, c);
     }
-    look_of(s, e, true)
+    at(s, e)
 }
 
 // `row` and `then`: the first operand's front from t on, then each next one's from past the one before. `row` is given up where one does not start there.
@@ -95,7 +96,7 @@ fn chain(
     st: &mut [u32; STATE],
     v: usize,
     t: u32,
-) -> Look
+) -> Front
     requires { ⌜ (v < 32) × (v + 1 < stopOf (now rows) v) ⌝ }
     ensures { λ r. ⌜ (Chains (kindAt (now (rows .entry)) v) → Looked (source (now (words .entry)) (now (items .entry))) (now (rows .entry)) (now (st .entry)) v t r (now (st .exit))) ⌝ }
 {
@@ -104,7 +105,7 @@ fn chain(
     let a = seek(rows, words, items, st, v + 1, t);
     let s = a.start;
     if NONE <= s {
-        return no_look();
+        return none();
     }
     let mut e = a.end;
     let mut c = next_of(rows, v + 1);
@@ -112,15 +113,15 @@ fn chain(
         let to = past(e);
         let f = seek(rows, words, items, st, c, to);
         if NONE <= f.start {
-            return no_look();
+            return none();
         }
         if breaks(tight, f.start, to) {
-            return look_of(s, e, false);
+            return at(s, NONE);
         }
         e = f.end;
         c = next_of(rows, c);
     }
-    look_of(s, e, true)
+    at(s, e)
 }
 
 // Whether a front of v's first operand passes the test of v's kind.
@@ -154,16 +155,18 @@ fn filter(
     st: &mut [u32; STATE],
     v: usize,
     t: u32,
-) -> Look
+) -> Front
     requires { ⌜ (v < 32) × (v + 1 < stopOf (now rows) v) ⌝ }
     ensures { λ r. ⌜ (Filters (kindAt (now (rows .entry)) v) → Looked (source (now (words .entry)) (now (items .entry))) (now (rows .entry)) (now (st .entry)) v t r (now (st .exit))) ⌝ }
 {
     let a = seek(rows, words, items, st, v + 1, t);
     if NONE <= a.start {
-        return no_look();
+        return none();
     }
-    let good = passes(rows, words, items, st, v, a);
-    look_of(a.start, a.end, good)
+    if passes(rows, words, items, st, v, a) {
+        return a;
+    }
+    at(a.start, NONE)
 }
 
 // What an operator but `or` offers first from t on.
@@ -174,60 +177,38 @@ fn look_at(
     st: &mut [u32; STATE],
     v: usize,
     t: u32,
-) -> Look
-    requires { ⌜ v < 32 ⌝ }
+) -> Front
+    requires { ⌜ (v < 32) × (1 < kindAt (now rows) v) ⌝ }
     ensures { λ r. ⌜ Looked (source (now (words .entry)) (now (items .entry))) (now (rows .entry)) (now (st .entry)) v t r (now (st .exit)) ⌝ }
 {
     if stop_of(rows, v) <= v + 1 {
-        return no_look();
+        return none();
     }
     let kind = rows[v];
     if kind == AND {
         return span(rows, words, items, st, v, t);
     }
-    if kind == ROW {
-        return chain(rows, words, items, st, v, t);
-    }
-    if kind == THEN {
+    if kind < LESS {
         return chain(rows, words, items, st, v, t);
     }
     filter(rows, words, items, st, v, t)
 }
 
-// `and` and `then`: the last look that still ends where the first does.
-fn narrow(
-    rows: &[usize; TABLE],
-    words: &[u64],
-    items: &[u32],
-    st: &mut [u32; STATE],
-    v: usize,
-    t: u32,
-) -> Front
-    requires { ⌜ v < 32 ⌝ }
-    ensures { λ r. ⌜ (Narrows (kindAt (now (rows .entry)) v) → Sought (source (now (words .entry)) (now (items .entry))) (now (rows .entry)) (now (st .entry)) v t r (now (st .exit))) ⌝ }
+// Whether a look is the front: it is good, and the kind is not one that narrows.
+fn settles(kind: usize, end: u32) -> bool
+    ensures { λ r. ⌜ (r ≡ true → (Narrows kind → ⊥) × (end < 65536)) × (r ≡ false → Narrows kind ⊎ (65536 ≤ end)) ⌝ }
 {
-    let a = look_at(rows, words, items, st, v, t);
-    if NONE <= a.start {
-        return none();
+    if kind == AND {
+        return false;
     }
-    let mut m = a.start;
-    let e = a.end;
-    while m < NONE {
-        let b = look_at(rows, words, items, st, v, m + 1);
-        if e < b.end {
-            return at(m, e);
-        }
-        let n = b.start;
-        if n <= m {
-            return at(m, e);
-        }
-        m = n;
+    if kind == THEN {
+        return false;
     }
-    at(m, e)
+    end < NONE
 }
 
-// `row` and the filters: the first look that is good.
-fn skip(
+// Look by look to the front. `and` and `then`: the last look that still ends where the first does. `row` and the filters: the first look that is good.
+fn advance(
     rows: &[usize; TABLE],
     words: &[u64],
     items: &[u32],
@@ -235,25 +216,31 @@ fn skip(
     v: usize,
     t: u32,
 ) -> Front
-    requires { ⌜ v < 32 ⌝ }
-    ensures { λ r. ⌜ (Skips (kindAt (now (rows .entry)) v) → Sought (source (now (words .entry)) (now (items .entry))) (now (rows .entry)) (now (st .entry)) v t r (now (st .exit))) ⌝ }
+    requires { ⌜ (v < 32) × (1 < kindAt (now rows) v) ⌝ }
+    ensures { λ r. ⌜ (kindAt (now (rows .entry)) v < 7 → Sought (source (now (words .entry)) (now (items .entry))) (now (rows .entry)) (now (st .entry)) v t r (now (st .exit))) ⌝ }
 {
+    let kind = rows[v];
+    let mut best = none();
     let mut from = t;
     while from < NONE {
         let a = look_at(rows, words, items, st, v, from);
         let s = a.start;
         if NONE <= s {
-            return none();
+            return best;
         }
-        if a.good {
-            return at(s, a.end);
+        if best.end < a.end {
+            return best;
+        }
+        if settles(kind, a.end) {
+            return a;
         }
         if s < from {
-            return none();
+            return best;
         }
+        best = better(best, a);
         from = s + 1;
     }
-    none()
+    best
 }
 
 // The front of v of which nothing that serves is kept, by its kind. A kind that no list and no operator has finds none.
@@ -278,22 +265,13 @@ fn fresh(
     if kind == OR {
         return seek_or(rows, words, items, st, v, t);
     }
-    if kind == AND {
-        return narrow(rows, words, items, st, v, t);
+    if kind < AND {
+        return none();
     }
-    if kind == THEN {
-        return narrow(rows, words, items, st, v, t);
+    if MAX < kind {
+        return none();
     }
-    if kind == ROW {
-        return skip(rows, words, items, st, v, t);
-    }
-    if kind == LESS {
-        return skip(rows, words, items, st, v, t);
-    }
-    if kind == MAX {
-        return skip(rows, words, items, st, v, t);
-    }
-    none()
+    advance(rows, words, items, st, v, t)
 }
 
 // The front of v, found anew and kept.

@@ -1,12 +1,11 @@
--- Fronts compared and stored, and looks, which are fronts to be kept or passed over. Private contracts cite this. Assumes nothing.
+-- Fronts compared and stored, and looks, which are fronts or are passed over. Private contracts cite this. Assumes nothing.
 use Prim.Native.Nat.{ℕ, _+_, _≤_, _<_}
-use mathlib.Core.Bool.{Bool, false, cond}
+use mathlib.Core.Bool.{Bool, cond}
 use mathlib.Core.List.{List}
 use lib.ListN.{set}
 use lib.Dec.{ltb}
 use Rattle.seek.specs.declared.Front.{Front}
-use Rattle.seek.specs.declared.fronts.Look.{Look}
-use Rattle.seek.specs.First.{liveAt, askedAt}
+use Rattle.seek.specs.First.{atF, noneF, liveAt, askedAt}
 
 -- the line after; past 65,536 there is none
 unfoldable pub pastOf : ℕ → ℕ
@@ -16,17 +15,19 @@ pastOf n = cond (ltb n 65536) (n + 1) 65537
 unfoldable pub betterOf : Front → Front → Front
 betterOf a b = cond (ltb (b .end) (a .end)) b (cond (ltb (a .end) (b .end)) a (cond (ltb (a .start) (b .start)) b a))
 
--- ── Looks: a front to be kept or passed over ──
+-- ── Looks: a front, which is no good where it ends at line 65,536 ──
 
-abbrev pub lookOf : ℕ → ℕ → Bool → Look
-lookOf s e g = record { start = s; end = e; good = g }
+-- what starts at line s and is no good
+abbrev pub badF : ℕ → Front
+badF s = atF s 65536
 
-abbrev pub noLook : Look
-noLook = lookOf 65536 65536 false
+-- the front, if it passed a test
+abbrev pub kept : Front → Bool → Front
+kept f b = cond b f (badF (f .start))
 
 -- with a front, on; without, none
-unfoldable pub goF : Front → (Front → Look) → Look
-goF f k = cond (ltb (f .start) 65536) (k f) noLook
+unfoldable pub goF : Front → (Front → Front) → Front
+goF f k = cond (ltb (f .start) 65536) (k f) noneF
 
 -- ── The state ──
 

@@ -10,26 +10,25 @@ use Rattle.stretches.specs.Front.{firstFrom}
 use Rattle.stretches.specs.Table.{kindAt, firstAt}
 use Rattle.stretches.specs.inner.Operands.{operandsOf}
 use Rattle.seek.specs.declared.Front.{Front}
-use Rattle.seek.specs.declared.fronts.Look.{Look}
 use Rattle.seek.specs.Source.{Source, measured, given, Good}
-use Rattle.seek.specs.First.{atF, front, Ready, Found}
-use Rattle.seek.specs.inner.Fronts.{pastOf, lookOf, noLook, goF}
+use Rattle.seek.specs.First.{atF, noneF, front, Ready, Found}
+use Rattle.seek.specs.inner.Fronts.{pastOf, badF, kept, goF}
 
 -- node v was sought from t with the state at s, which is left at s'
 pub record Sought (src : Source) (rows s : List ℕ) (v t : ℕ) (r : Front) (s' : List ℕ) : Type 0 where
   pub found : Good src rows → Ready src rows s → Found src rows v t r s'
 
--- ── Looking at operands: what an operator offers first from t on, to be kept or passed over ──
+-- ── Looking at operands: what an operator offers first from t on, no good where it ends at line 65,536 ──
 
 -- `and`: the span of h and the lists' fronts from t on
-unfoldable pub spanFrom : ℕ → Front → List (List Stretch) → Look
-spanFrom t h [] = lookOf (h .start) (h .end) true
+unfoldable pub spanFrom : ℕ → Front → List (List Stretch) → Front
+spanFrom t h [] = h
 spanFrom t h (l ∷ ls) = goF (front (firstFrom l t)) (λ f. spanFrom t (atF (min (h .start) (f .start)) (max (h .end) (f .end))) ls)
 
 -- `row` and `then`: [s..e] and then each list's front from past the one before; `row`, which is tight, is no good where one does not start there
-unfoldable pub chainFrom : Bool → ℕ → ℕ → List (List Stretch) → Look
-chainFrom tight s e [] = lookOf s e true
-chainFrom tight s e (l ∷ ls) = goF (front (firstFrom l (pastOf e))) (λ f. cond (tight && not (eqb (f .start) (pastOf e))) (lookOf s e false) (chainFrom tight s (f .end) ls))
+unfoldable pub chainFrom : Bool → ℕ → ℕ → List (List Stretch) → Front
+chainFrom tight s e [] = atF s e
+chainFrom tight s e (l ∷ ls) = goF (front (firstFrom l (pastOf e))) (λ f. cond (tight && not (eqb (f .start) (pastOf e))) (badF s) (chainFrom tight s (f .end) ls))
 
 -- the filters' tests of a front of the first operand, the others being ls: `max` is 6, and else `less`
 abbrev pub clears : List (List Stretch) → Front → Bool
@@ -45,23 +44,23 @@ others [] = []
 others (l ∷ ls) = ls
 
 -- by the operator's number and its bound
-abbrev pub lookBy : Source → ℕ → ℕ → List (List Stretch) → ℕ → Look
-lookBy src kind bound [] t = noLook
+abbrev pub lookBy : Source → ℕ → ℕ → List (List Stretch) → ℕ → Front
+lookBy src kind bound [] t = noneF
 lookBy src kind bound (l ∷ ls) t =
     cond (eqb kind 2) (spanFrom t (atF 65536 0) (l ∷ ls))
     (cond (eqb kind 3) (goF (front (firstFrom l t)) (λ f. chainFrom true (f .start) (f .end) ls))
     (cond (eqb kind 4) (goF (front (firstFrom l t)) (λ f. chainFrom false (f .start) (f .end) ls))
-    (goF (front (firstFrom l t)) (λ f. lookOf (f .start) (f .end) (passes src kind bound ls f)))))
+    (goF (front (firstFrom l t)) (λ f. kept f (passes src kind bound ls f)))))
 
-unfoldable pub look : Source → List ℕ → ℕ → ℕ → Look
+unfoldable pub look : Source → List ℕ → ℕ → ℕ → Front
 look src rows v t = lookBy src (kindAt rows v) (firstAt rows v) (operandsOf (given src rows) rows v) t
 
-pub record Seen (src : Source) (rows : List ℕ) (v t : ℕ) (r : Look) (s' : List ℕ) : Type 0 where
+pub record Seen (src : Source) (rows : List ℕ) (v t : ℕ) (r : Front) (s' : List ℕ) : Type 0 where
   pub is : r ≡ look src rows v t
   pub ready : Ready src rows s'
 
 -- node v's operands were looked at
-pub record Looked (src : Source) (rows s : List ℕ) (v t : ℕ) (r : Look) (s' : List ℕ) : Type 0 where
+pub record Looked (src : Source) (rows s : List ℕ) (v t : ℕ) (r : Front) (s' : List ℕ) : Type 0 where
   pub seen : Good src rows → Ready src rows s → Seen src rows v t r s'
 
 pub record Passed (src : Source) (rows : List ℕ) (v : ℕ) (a : Front) (r : Bool) (s' : List ℕ) : Type 0 where

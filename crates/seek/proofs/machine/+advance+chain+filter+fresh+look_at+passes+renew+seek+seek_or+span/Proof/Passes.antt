@@ -7,8 +7,8 @@ use Rattle.nodes.proofs.next_of.Reads as next-of-reads
 use Rattle.nodes.proofs.stop_of.Reads as stop-of-reads
 use Rattle.seek.proofs.machine.passes.Reads as passes
 use Rattle.seek.proofs.machine.seek.Reads as seek
-use Rattle.seek.proofs.machine.+chain+filter+fresh+look_at+narrow+passes+renew+seek+seek_or+skip+span.Lts-passes as lts
-use Rattle.seek.proofs.machine.+chain+filter+fresh+look_at+narrow+passes+renew+seek+seek_or+skip+span.Proof.Common.{passes-at, seek-below}
+use Rattle.seek.proofs.machine.+advance+chain+filter+fresh+look_at+passes+renew+seek+seek_or+span.Lts-passes as lts
+use Rattle.seek.proofs.machine.+advance+chain+filter+fresh+look_at+passes+renew+seek+seek_or+span.Proof.Common.{passes-at, seek-below}
 use mathlib.Core.Path.{refl}
 use Rattle.seek.proofs.Turns.{test-max, test-alone, test-less}
 

@@ -2,6 +2,8 @@
 use Prim.Native.Nat.{ℕ, _<_, _+_, _*_, _-_}
 use borrow.Fn.Kinds.{In}
 use borrow.Fn.PlainCycle.{Measures, is, falls, and}
+use Rattle.seek.proofs.machine.advance.Reads as advance
+use Rattle.seek.proofs.machine.advance.Kinds as advance-kinds
 use Rattle.seek.proofs.machine.chain.Reads as chain
 use Rattle.seek.proofs.machine.chain.Kinds as chain-kinds
 use Rattle.seek.proofs.machine.filter.Reads as filter
@@ -10,8 +12,6 @@ use Rattle.seek.proofs.machine.fresh.Reads as fresh
 use Rattle.seek.proofs.machine.fresh.Kinds as fresh-kinds
 use Rattle.seek.proofs.machine.look_at.Reads as look-at
 use Rattle.seek.proofs.machine.look_at.Kinds as look-at-kinds
-use Rattle.seek.proofs.machine.narrow.Reads as narrow
-use Rattle.seek.proofs.machine.narrow.Kinds as narrow-kinds
 use Rattle.seek.proofs.machine.passes.Reads as passes
 use Rattle.seek.proofs.machine.passes.Kinds as passes-kinds
 use Rattle.seek.proofs.machine.renew.Reads as renew
@@ -20,10 +20,11 @@ use Rattle.seek.proofs.machine.seek.Reads as seek
 use Rattle.seek.proofs.machine.seek.Kinds as seek-kinds
 use Rattle.seek.proofs.machine.seek_or.Reads as seek-or
 use Rattle.seek.proofs.machine.seek_or.Kinds as seek-or-kinds
-use Rattle.seek.proofs.machine.skip.Reads as skip
-use Rattle.seek.proofs.machine.skip.Kinds as skip-kinds
 use Rattle.seek.proofs.machine.span.Reads as span
 use Rattle.seek.proofs.machine.span.Kinds as span-kinds
+
+abbrev pub μ-advance : Measures 4 advance-kinds.ps ℕ
+μ-advance κs a = 8 * (32 - a .1 .1 .1 .1 .0) + 4
 
 abbrev pub μ-chain : Measures 4 chain-kinds.ps ℕ
 μ-chain κs a = 8 * (32 - a .1 .1 .1 .1 .0) + 2
@@ -37,9 +38,6 @@ abbrev pub μ-fresh : Measures 4 fresh-kinds.ps ℕ
 abbrev pub μ-look-at : Measures 4 look-at-kinds.ps ℕ
 μ-look-at κs a = 8 * (32 - a .1 .1 .1 .1 .0) + 3
 
-abbrev pub μ-narrow : Measures 4 narrow-kinds.ps ℕ
-μ-narrow κs a = 8 * (32 - a .1 .1 .1 .1 .0) + 4
-
 abbrev pub μ-passes : Measures 4 passes-kinds.ps ℕ
 μ-passes κs a = 8 * (32 - a .1 .1 .1 .1 .0) + 1
 
@@ -52,11 +50,14 @@ abbrev pub μ-seek : Measures 4 seek-kinds.ps ℕ
 abbrev pub μ-seek-or : Measures 4 seek-or-kinds.ps ℕ
 μ-seek-or κs a = 8 * (32 - a .1 .1 .1 .1 .0) + 4
 
-abbrev pub μ-skip : Measures 4 skip-kinds.ps ℕ
-μ-skip κs a = 8 * (32 - a .1 .1 .1 .1 .0) + 4
-
 abbrev pub μ-span : Measures 4 span-kinds.ps ℕ
 μ-span κs a = 8 * (32 - a .1 .1 .1 .1 .0) + 2
+
+abbrev pub advance-at : ℕ → In 4 advance-kinds.ps
+advance-at t = and 4 advance-kinds.ps (is 4 advance-kinds.ps μ-advance t) advance.Pre
+
+abbrev pub advance-below : ℕ → In 4 advance-kinds.ps
+advance-below t = and 4 advance-kinds.ps (falls 4 advance-kinds.ps _<_ μ-advance t) advance.Pre
 
 abbrev pub chain-at : ℕ → In 4 chain-kinds.ps
 chain-at t = and 4 chain-kinds.ps (is 4 chain-kinds.ps μ-chain t) chain.Pre
@@ -82,12 +83,6 @@ look-at-at t = and 4 look-at-kinds.ps (is 4 look-at-kinds.ps μ-look-at t) look-
 abbrev pub look-at-below : ℕ → In 4 look-at-kinds.ps
 look-at-below t = and 4 look-at-kinds.ps (falls 4 look-at-kinds.ps _<_ μ-look-at t) look-at.Pre
 
-abbrev pub narrow-at : ℕ → In 4 narrow-kinds.ps
-narrow-at t = and 4 narrow-kinds.ps (is 4 narrow-kinds.ps μ-narrow t) narrow.Pre
-
-abbrev pub narrow-below : ℕ → In 4 narrow-kinds.ps
-narrow-below t = and 4 narrow-kinds.ps (falls 4 narrow-kinds.ps _<_ μ-narrow t) narrow.Pre
-
 abbrev pub passes-at : ℕ → In 4 passes-kinds.ps
 passes-at t = and 4 passes-kinds.ps (is 4 passes-kinds.ps μ-passes t) passes.Pre
 
@@ -111,12 +106,6 @@ seek-or-at t = and 4 seek-or-kinds.ps (is 4 seek-or-kinds.ps μ-seek-or t) seek-
 
 abbrev pub seek-or-below : ℕ → In 4 seek-or-kinds.ps
 seek-or-below t = and 4 seek-or-kinds.ps (falls 4 seek-or-kinds.ps _<_ μ-seek-or t) seek-or.Pre
-
-abbrev pub skip-at : ℕ → In 4 skip-kinds.ps
-skip-at t = and 4 skip-kinds.ps (is 4 skip-kinds.ps μ-skip t) skip.Pre
-
-abbrev pub skip-below : ℕ → In 4 skip-kinds.ps
-skip-below t = and 4 skip-kinds.ps (falls 4 skip-kinds.ps _<_ μ-skip t) skip.Pre
 
 abbrev pub span-at : ℕ → In 4 span-kinds.ps
 span-at t = and 4 span-kinds.ps (is 4 span-kinds.ps μ-span t) span.Pre
