@@ -1,6 +1,6 @@
 -- The looks on the way to a front: what those so far have shown, and one law for each return and turn. Assumes nothing.
 use mathlib.Core.Path.{_≡_, refl, sym, ap, subst, _∙_}
-use mathlib.Core.Logic.{_⊎_, inl, inr, ⊎-elim}
+use mathlib.Core.Logic.{_⊎_, ⊎-elim}
 use mathlib.Core.Bool.{cond}
 use mathlib.Core.List.{List}
 use Prim.Native.Nat.{ℕ, suc, _+_, _≤_, _<_}
@@ -17,7 +17,7 @@ use Rattle.seek.specs.declared.Front.{Front}
 use Rattle.seek.specs.Source.{Source, listOver, Good}
 use Rattle.seek.specs.First.{noneF, front, first, Ready}
 use Rattle.seek.specs.inner.Fronts.{betterOf}
-use Rattle.seek.specs.inner.Looks.{look, Sought, Looked, Narrows, Skips}
+use Rattle.seek.specs.inner.Looks.{Sought, Looked, Narrows, Skips}
 use Rattle.seek.proofs.Shapes.{operator, apart}
 use Rattle.seek.proofs.Looks.{TightLook, t-none, t-some, SkipLook, k-none, k-good, k-bad}
 use Rattle.seek.proofs.Nodes.{past, Narrowing, small-cand, narrowing, skipping}

@@ -1,7 +1,6 @@
 -- The needs of `advance`. Assumes nothing.
 use Prim.Native.Nat.{ℕ, _-_}
 use borrow.Author.Needs.{needs}
-use native.Mathlib.Omega.{arith}
 use Rattle.seek.proofs.fronts.better.Reads as better-reads
 use Rattle.seek.proofs.fronts.none.Reads as none-reads
 use Rattle.seek.proofs.machine.settles.Reads as settles-reads
