@@ -209,6 +209,7 @@ fn settles(kind: usize, end: u32) -> bool
 }
 
 // Look by look to the front. `and` and `then`: the last look that still ends where the first does. `row` and the filters: the first look that is good.
+// A look that is no good is not better than none.
 fn advance(
     rows: &[usize; TABLE],
     words: &[u64],
