@@ -170,6 +170,16 @@ fn filter(
     at(a.start, NONE)
 }
 
+// Whether the operands follow each other: `row` and `then`.
+fn is_chain(kind: usize) -> bool
+    ensures { λ r. ⌜ (r ≡ true → Chains kind) × (r ≡ false → Chains kind → ⊥) ⌝ }
+{
+    if kind == ROW {
+        return true;
+    }
+    kind == THEN
+}
+
 // What an operator but `or` offers first from t on.
 fn look_at(
     rows: &[usize; TABLE],
@@ -189,7 +199,7 @@ fn look_at(
     if kind == AND {
         return span(rows, words, items, st, v, t);
     }
-    if kind < LESS {
+    if is_chain(kind) {
         return chain(rows, words, items, st, v, t);
     }
     filter(rows, words, items, st, v, t)
@@ -245,6 +255,25 @@ fn advance(
     best
 }
 
+// Whether it is the kind of an operator but `or`.
+fn has_looks(kind: usize) -> bool
+    ensures { λ r. ⌜ (r ≡ true → (1 < kind) × (kind < 7)) × (r ≡ false → (kind < 2) ⊎ (6 < kind)) ⌝ }
+{
+    if kind == AND {
+        return true;
+    }
+    if kind == ROW {
+        return true;
+    }
+    if kind == THEN {
+        return true;
+    }
+    if kind == LESS {
+        return true;
+    }
+    kind == MAX
+}
+
 // The front of v of which nothing that serves is kept, by its kind. A kind that no list and no operator has finds none.
 fn fresh(
     rows: &[usize; TABLE],
@@ -267,13 +296,10 @@ fn fresh(
     if kind == OR {
         return seek_or(rows, words, items, st, v, t);
     }
-    if kind < AND {
-        return none();
+    if has_looks(kind) {
+        return advance(rows, words, items, st, v, t);
     }
-    if MAX < kind {
-        return none();
-    }
-    advance(rows, words, items, st, v, t)
+    none()
 }
 
 // The front of v, found anew and kept.
