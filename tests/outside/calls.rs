@@ -5,6 +5,8 @@ pub trait Calls {
     fn fill(&self, pattern: &[u8], log: &[u8], cells: &mut [u32], from: u64) -> u64;
     fn lists_fill(&self, op: u32, k: u32, items: &[u32], ends: &[u32], cells: &mut [u32], from: u64) -> u64;
     fn lists_take(&self, op: u32, items: &[u32], ends: &[u32], counts: &mut [u32], number: u64) -> u64;
+    fn count(&self, log: &[u8]) -> u64;
+    fn lines(&self, log: &[u8], first: u32, last: u32) -> u64;
     /// The stretches taken one by one into the cells; gives how many.
     fn steps(&self, pattern: &[u8], log: &[u8], cells: &mut [u32]) -> u64;
 }
@@ -44,6 +46,8 @@ extern "C" {
         count_cells: usize,
         number: u64,
     ) -> u64;
+    fn finder_count(log: *const u8, log_len: usize) -> u64;
+    fn finder_lines(log: *const u8, log_len: usize, first: u32, last: u32) -> u64;
 }
 
 #[link(name = "finder_steps", kind = "static")]
@@ -63,6 +67,14 @@ impl Calls for Archive {
 
     fn lists_take(&self, op: u32, items: &[u32], ends: &[u32], counts: &mut [u32], number: u64) -> u64 {
         unsafe { finder_lists_take(op, items.as_ptr(), items.len(), ends.as_ptr(), ends.len(), counts.as_mut_ptr(), counts.len(), number) }
+    }
+
+    fn count(&self, log: &[u8]) -> u64 {
+        unsafe { finder_count(log.as_ptr(), log.len()) }
+    }
+
+    fn lines(&self, log: &[u8], first: u32, last: u32) -> u64 {
+        unsafe { finder_lines(log.as_ptr(), log.len(), first, last) }
     }
 
     fn steps(&self, pattern: &[u8], log: &[u8], cells: &mut [u32]) -> u64 {

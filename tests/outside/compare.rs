@@ -83,6 +83,26 @@ pub fn take(calls: &dyn Calls, rng: &mut Rng, lent: &Lists, taken: &Result<Taken
     same(rng, cells, call, |counts| lent::take(taken, counts)).map_err(report)
 }
 
+/// Compares a call over a log alone; a difference is reported for a shorter log if one shows it too.
+fn alone(log: &[u8], input: impl Fn(&[u8]) -> String, call: impl Fn(&[u8]) -> u64, model: impl Fn(&[u8]) -> u64) -> Checked {
+    let differs = |log: &[u8]| match (call(log), model(log)) {
+        (given, due) if given != due => Err(format!("result {given:#x}, should be {due:#x}\n  {}", input(log))),
+        _ => Ok(()),
+    };
+    differs(log).map_err(|report| shorten(log, differs).err().unwrap_or(report))
+}
+
+/// The counting call.
+pub fn count(calls: &dyn Calls, log: &[u8]) -> Checked {
+    alone(log, |log| format!("count of {}", show(log)), |log| calls.count(log), reference::count)
+}
+
+/// The call for the lines of a stretch.
+pub fn lines(calls: &dyn Calls, log: &[u8], first: u32, last: u32) -> Checked {
+    let input = |log: &[u8]| format!("lines {first} to {last} of {}", show(log));
+    alone(log, input, |log| calls.lines(log, first, last), |log| reference::part_result(reference::part(log, first, last)))
+}
+
 /// The whole list by the filling call, with cells enough to say "done"; or the result of a call that says something else.
 pub fn whole(calls: &dyn Calls, pattern: &[u8], log: &[u8]) -> Result<List, u64> {
     let mut cells = vec![0; 2 * reference::lines(log).len()];

@@ -99,6 +99,7 @@ pub fn variants() -> Vec<(&'static str, Plain)> {
     all.extend(over_reading());
     all.extend(over_handing_back());
     all.extend(over_steps());
+    all.extend(over_log_alone());
     all
 }
 
@@ -415,6 +416,80 @@ fn over_steps() -> Vec<(&'static str, Plain)> {
                 Err(_) => r::steps(&Ok(vec![Stretch { s: 0, e: 0 }]), cells),
                 Ok(_) => r::steps(answers, cells),
             }),
+        ),
+    ]
+}
+
+/// Wrong counts, and wrong parts of a log.
+fn over_log_alone() -> Vec<(&'static str, Plain)> {
+    /// A count by other readings, whatever the log's length.
+    fn counted(lines: Vec<Option<Record>>) -> u64 {
+        (lines.len() as u64) << 32 | (r::damaged(&lines) as u64) << 16
+    }
+    /// 1 where the log is accepted and its last line has no line feed.
+    fn unended(log: &[u8]) -> u64 {
+        u64::from(log.len() <= LOG_MAX && log.last().is_some_and(|&b| b != b'\n'))
+    }
+    /// A part with its start and its length changed.
+    fn moved(part: Option<(usize, &[u8])>, start: i64, bytes: i64) -> u64 {
+        part.map_or(0, |(at, part)| ((part.len() as i64 + bytes) << 32 | (at as i64 + start)) as u64)
+    }
+    let count = |count| Plain { count, ..RIGHT };
+    let lines = |lines| Plain { lines, ..RIGHT };
+    vec![
+        ("a line without line feed left out of the count", count(|log| r::count(log) - unended(log) * (1 << 32 | 1 << 16))),
+        ("a line without line feed counted as sound", count(|log| r::count(log) - unended(log) * (1 << 16))),
+        ("damaged counted as sound", count(|log| r::count(log) & !0xffff_0000)),
+        ("damaged lines left out of the lines", count(|log| r::count(log) - ((r::count(log) >> 16 & 0xffff) << 32))),
+        (
+            "lines and damaged exchanged in the count",
+            count(|log| match r::count(log) {
+                1 => 1,
+                n => (n >> 16 & 0xffff) << 32 | n >> 32 << 16,
+            }),
+        ),
+        ("a long log counted", count(|log| counted(r::read_log(log)))),
+        ("a long log refused, and counted too", count(|log| r::count(log) & 1 | counted(r::read_log(log)))),
+        ("61,440 bytes not counted", count(|log| if log.len() >= LOG_MAX { 1 } else { r::count(log) })),
+        (
+            "the last line feed left out of the part",
+            lines(|log, first, last| {
+                let part = r::part(log, first, last);
+                moved(part, 0, -i64::from(part.is_some_and(|(_, part)| part.ends_with(b"\n"))))
+            }),
+        ),
+        ("a part that starts a byte late", lines(|log, first, last| moved(r::part(log, first, last), 1, 0))),
+        (
+            "a part from the line feed before it on",
+            lines(|log, first, last| {
+                let before = i64::from(r::part(log, first, last).is_some_and(|(at, _)| at > 0));
+                moved(r::part(log, first, last), -before, before)
+            }),
+        ),
+        (
+            "the last line left out of the part",
+            lines(|log, first, last| {
+                let short = r::part(log, first, last).filter(|_| first < last).and_then(|_| r::part(log, first, last - 1));
+                r::part_result(short)
+            }),
+        ),
+        ("start and length exchanged", lines(|log, first, last| r::part_result(r::part(log, first, last)).rotate_left(32))),
+        (
+            "first above last taken the other way round",
+            lines(|log, first, last| r::part_result(r::part(log, first.min(last), first.max(last)))),
+        ),
+        (
+            "a last line that does not exist taken for the last one",
+            lines(|log, first, last| r::part_result(r::part(log, first, last.min((r::lines(log).len() as u32).saturating_sub(1))))),
+        ),
+        (
+            "an empty part at the log's end",
+            lines(|log, first, last| r::part(log, first, last).map_or(log.len() as u64, |part| r::part_result(Some(part)))),
+        ),
+        ("the lines of a long log", lines(|log, first, last| r::part_result(r::part(&log[..log.len().min(LOG_MAX)], first, last)))),
+        (
+            "61,440 bytes taken for a long log",
+            lines(|log, first, last| if log.len() >= LOG_MAX { 0 } else { r::part_result(r::part(log, first, last)) }),
         ),
     ]
 }

@@ -7,6 +7,7 @@ mod faults;
 mod inputs;
 mod itself;
 mod lent;
+mod log_alone;
 mod over_lists;
 mod over_logs;
 mod plain;
@@ -32,7 +33,7 @@ pub type Outcome = Result<usize, String>;
 type Group = (&'static str, fn(&Trial) -> Outcome);
 
 /// Groups that try the calls on seeded inputs.
-const SEEDED: [Group; 10] = [
+const SEEDED: [Group; 12] = [
     ("patterns", over_logs::patterns),
     ("lines", over_logs::lines),
     ("logs", over_logs::logs),
@@ -40,12 +41,15 @@ const SEEDED: [Group; 10] = [
     ("bounds", over_logs::bounds),
     ("runs", over_logs::runs),
     ("steps", over_logs::steps),
+    ("counts", log_alone::counts),
+    ("parts", log_alone::parts),
     ("lists", over_lists::lists),
     ("spoiled lists", over_lists::spoiled),
     ("taking", over_lists::taking),
 ];
 
-const FIXED: [Group; 3] = [("reference", itself::reference), ("document", itself::cases), ("samples", over_logs::samples)];
+const FIXED: [Group; 4] =
+    [("reference", itself::reference), ("document", itself::cases), ("samples", over_logs::samples), ("log alone", log_alone::cases)];
 
 /// Runs all groups on the archive; gives the number that failed.
 fn compare_archive() -> usize {

@@ -17,6 +17,8 @@ pub struct Plain {
     pub fill: fn(&Result<List, Refusal>, &mut [u32], u64) -> u64,
     pub steps: fn(&Result<List, Refusal>, &mut [u32]) -> u64,
     pub take: fn(&Result<Taken, Refusal>, &mut [u32]) -> u64,
+    pub count: fn(&[u8]) -> u64,
+    pub lines: fn(&[u8], u32, u32) -> u64,
 }
 
 /// Every part as the reference has it.
@@ -31,6 +33,8 @@ pub const RIGHT: Plain = Plain {
     fill: r::fill,
     steps: r::steps,
     take: lent::take,
+    count: r::count,
+    lines: |log, first, last| r::part_result(r::part(log, first, last)),
 };
 
 impl Plain {
@@ -58,5 +62,13 @@ impl Calls for Plain {
         let lists = if miscalled { refused(6) } else { (self.lists)(op, 0, items, ends) };
         let taken = lists.map(|(op, lists)| (if op == Op::Or { self.take_or } else { self.take_and })(&lists, number));
         (self.take)(&taken, counts)
+    }
+
+    fn count(&self, log: &[u8]) -> u64 {
+        (self.count)(log)
+    }
+
+    fn lines(&self, log: &[u8], first: u32, last: u32) -> u64 {
+        (self.lines)(log, first, last)
     }
 }
