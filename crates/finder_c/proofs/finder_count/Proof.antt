@@ -14,13 +14,13 @@ returns : tie.Need-returns
 returns c = count-long (now (c .before .before .args .log)) (c .if1 .taken)
 
 mul-result : tie.Need-mul-result
-mul-result c = omega (arith, small c .0)
+mul-result c = omega (arith, small c)
 
 mul-result-2 : tie.Need-mul-result-2
-mul-result-2 c = omega (arith, small c .1)
+mul-result-2 c = omega (arith, small c)
 
 add-result : tie.Need-add-result
-add-result c = omega (arith, small c .0, small c .1)
+add-result c = omega (arith, small c)
 
 returns-2 : tie.Need-returns-2
 returns-2 c = count-packed (now (c .before .before .before .args .log)) (c .count .result) (c .count .ensures) (c .before .if1 .left)
