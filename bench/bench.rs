@@ -15,7 +15,7 @@ use inputs::Rng;
 use std::hint::black_box;
 use std::time::{Duration, Instant};
 
-/// One of each operator, over seven leaves.
+/// One of each operator, over six leaves.
 const SIX: &str = "less,max,900,and,2,then,2,or,2,ev,7,0,ev,12,0,ev,20,0,row,2,ev,3,0,ev,2,0,ev,15,2";
 
 /// The medians of `a` and `b`, called in turn for about half a second.

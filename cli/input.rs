@@ -104,6 +104,10 @@ pub fn read_patterns(source: &Source) -> Result<Vec<Titled>, String> {
     if length > PATTERNS_MAX as u64 {
         return Err(format!("{}: more than {} bytes of patterns", source.name(), grouped(PATTERNS_MAX as u64)));
     }
+    let text = bytes.strip_suffix(b"\n").unwrap_or(&bytes);
+    if text.split(|&byte| byte == b'\n').all(|line| line.ends_with(b"\r")) {
+        return Err(format!("{}: its lines end in carriage returns (tr -d '\\r' takes them away)", source.name()));
+    }
     let mut patterns = Vec::new();
     let mut title = Vec::new();
     for (line, text) in (1..).zip(bytes.split(|&byte| byte == b'\n')) {

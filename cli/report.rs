@@ -37,12 +37,17 @@ pub fn refusal_pointed(reason: Refusal, pattern: &[u8], log: &Log) -> String {
     }
 }
 
-/// The warning of a log whose every line is damaged, with a hint where carriage returns are the reason.
+/// The warning of a log whose every line is damaged, with a hint where carriage returns are the reason, or most of whose lines are damaged by them.
 pub fn warning(log: &[u8], count: &Count) -> Option<String> {
-    if count.lines == 0 || count.damaged < count.lines {
+    if 2 * count.damaged <= count.lines {
         return None;
     }
     let returns = calls::each_line(log).filter(|line| sound_without_return(line)).count();
+    if count.damaged < count.lines {
+        let number = grouped(returns as u64);
+        let text = format!("warning: {number} lines are damaged by the carriage return at their end alone (tr -d '\\r' takes it away)");
+        return (2 * returns > count.lines).then_some(text);
+    }
     let hint = match returns {
         0 => String::new(),
         1 => "; 1 would be sound without the carriage return at its end (tr -d '\\r' takes it away)".into(),

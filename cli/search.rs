@@ -55,11 +55,15 @@ fn status(found: usize) -> u8 {
     }
 }
 
-/// A report over a log, after the warning of it if there is one.
-fn report(log: &[u8], count: Count, form: Form) -> Result<Report<'_>, Fault> {
-    if let Some(warning) = warning(log, &count) {
+fn warn(log: &[u8], count: &Count) {
+    if let Some(warning) = warning(log, count) {
         say(&warning);
     }
+}
+
+/// A report over a log, after the warning of it if there is one.
+fn report(log: &[u8], count: Count, form: Form) -> Result<Report<'_>, Fault> {
+    warn(log, &count);
     let out: Box<dyn Write> = if form == Form::Quiet { Box::new(io::sink()) } else { crate::output()? };
     Ok(Report { log, count, form, paint: Paint::for_stream(&io::stdout()), out })
 }
@@ -113,6 +117,9 @@ fn printed_sheet(pattern: &[u8], log: &Log) -> Result<u8, Fault> {
         };
     }
     let (printed, said) = sheet::print(pattern, &log.bytes)?;
+    if let Ok(count) = judged(calls::count(&log.bytes))? {
+        warn(&log.bytes, &count);
+    }
     let mut out = crate::output()?;
     out.write_all(&printed)?;
     out.flush()?;

@@ -96,6 +96,8 @@ static int search_in_pages(const char *pattern, const uint8_t *log, size_t log_l
         result = finder_fill((const uint8_t *)pattern, strlen(pattern), log, log_len, cells, 2 * PAGE, from);
         if (finder_refusal(result) != FINDER_ACCEPTED)
             return refused(result, pattern);
+        if (from == 0)
+            puts("lines are counted from 0");
         print_stretches(log, log_len, cells, finder_written(result));
         from += finder_written(result);
         printf("stretches so far: %lu, %s\n", (unsigned long)from, finder_more(result) ? "more" : "done");

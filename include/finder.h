@@ -40,7 +40,7 @@ enum {
 };
 
 /* The stack that is enough for a call, in bytes. Measured, finder_fill takes some 260,000, whatever the log, finder_count 7,600,
-   finder_lists_fill 2,600, the other two less than 600; in a program's first call the dynamic linker takes up to 3,200 more. */
+   finder_lists_fill 2,600, the other two less than 600; in a program's first call the dynamic linker takes up to 3,300 more. */
 enum { FINDER_STACK_FILL = 320 * 1024, FINDER_STACK_OTHERS = 16 * 1024 };
 
 /* Why a call was refused: the lowest number that applies. A refused call writes nothing, and its result holds this number and, for
@@ -53,7 +53,7 @@ enum {
     FINDER_CROWDED = 4,      /* more than FINDER_NODES_MAX nodes */
     FINDER_DEEP = 5,         /* deeper than FINDER_DEPTH_MAX */
     FINDER_MISCALLED = 6,    /* operator, number of lists, k, or number of count cells */
-    FINDER_MISCUT = 7,       /* an end place odd, below the one before, or the last not the number of items */
+    FINDER_MISCUT = 7,       /* an end place odd, below the one before, or the last not item_count */
     FINDER_DISORDERED = 8,   /* a start above its end, a position above FINDER_POSITION_MAX, or a start or end not above the one before
                                 it in its list */
     FINDER_FLOOD = 9         /* more answers than lines, which never happens */
@@ -83,8 +83,8 @@ uint64_t finder_count(const uint8_t *log, size_t log_len);
    Result: bits 0-31 the place in the log where they start, bits 32-63 their length in bytes; 0 for the empty part. */
 uint64_t finder_lines(const uint8_t *log, size_t log_len, uint32_t first, uint32_t last);
 
-/* As finder_fill, over lists of stretches. items holds start and end in turn, list after list; ends holds, for each list, the place in
-   items where it ends. k is 1 to FINDER_BOUND_MAX for FINDER_MAX and 0 for every other operator. FINDER_MAX takes 1 list, FINDER_LESS 2,
+/* As finder_fill, over lists of stretches. items holds start and end in turn, list after list, so item_count is two a stretch; ends holds, for
+   each list, the place in items where it ends. k is 1 to FINDER_BOUND_MAX for FINDER_MAX and 0 for every other operator. FINDER_MAX takes 1 list, FINDER_LESS 2,
    the others 2 to FINDER_LISTS_MAX. item_count cells hold all answers. Result as for finder_fill. */
 uint64_t finder_lists_fill(uint32_t op, uint32_t k, const uint32_t *items, size_t item_count,
                            const uint32_t *ends, size_t list_count, uint32_t *cells, size_t cell_count, uint64_t from);

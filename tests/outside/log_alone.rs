@@ -61,7 +61,7 @@ pub fn parts(t: &Trial) -> Outcome {
     Ok(count)
 }
 
-/// Worked by hand from document 01: the lines and the damaged ones of a log, and where stretches of its printed sheet's log stand.
+/// Worked by hand from docs/FORMATS.md: the lines and the damaged ones of a log, and where stretches of its printed sheet's log stand.
 pub fn cases(t: &Trial) -> Outcome {
     let feeds = |n: usize| vec![b'\n'; n];
     let counts: [(Vec<u8>, u64); 6] = [
