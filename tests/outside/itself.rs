@@ -140,7 +140,7 @@ pub fn cases(t: &Trial) -> Outcome {
     ];
     for (op, k, lists, due) in over_lists {
         let (items, ends) = inputs::lend(&lists);
-        agree("a document's case", &due, &reference::apply(op, k, &lists), || format!("{op:?} {lists:?}"))?;
+        agree("a worked case", &due, &reference::apply(op, k, &lists), || format!("{op:?} {lists:?}"))?;
         let lent = Lists { op: op as u32, k, items: &items, ends: &ends };
         compare::lists_fill(t.calls, &mut rng, &lent, &Ok(due.clone()), 2 * due.len() + 1, 0)?;
         count += 1;
@@ -162,7 +162,7 @@ pub fn cases(t: &Trial) -> Outcome {
         let (items, ends) = inputs::lend(&lists);
         let due = (answer.map(|(s, e)| Stretch { s, e }), counts.to_vec());
         let given = if op == Op::Or { lent::take_or_by_algorithm(&lists, number) } else { lent::take_and(&lists, number) };
-        agree("a document's count", &due, &given, || format!("{op:?} {lists:?}, answer {number}"))?;
+        agree("a worked count", &due, &given, || format!("{op:?} {lists:?}, answer {number}"))?;
         let lent = Lists { op: op as u32, k: 0, items: &items, ends: &ends };
         compare::take(t.calls, &mut rng, &lent, &Ok(due), 3, number)?;
         count += 1;
@@ -196,7 +196,7 @@ pub fn cases(t: &Trial) -> Outcome {
     ];
     for (pattern, log, due) in over_logs {
         let due = due.map_err(|(number, place)| Refusal { number, place });
-        agree("a document's case", &due, &quick::answers(pattern.as_bytes(), log.as_bytes()), || pattern.clone())?;
+        agree("a worked case", &due, &quick::answers(pattern.as_bytes(), log.as_bytes()), || pattern.clone())?;
         compare::fill(t.calls, &mut rng, pattern.as_bytes(), log.as_bytes(), &due, 7, 0)?;
         count += 1;
     }

@@ -49,7 +49,7 @@ const SEEDED: [Group; 12] = [
 ];
 
 const FIXED: [Group; 4] =
-    [("reference", itself::reference), ("document", itself::cases), ("samples", over_logs::samples), ("log alone", log_alone::cases)];
+    [("reference", itself::reference), ("worked cases", itself::cases), ("samples", over_logs::samples), ("log alone", log_alone::cases)];
 
 /// Runs all groups on the archive; gives the number that failed.
 fn compare_archive() -> usize {
