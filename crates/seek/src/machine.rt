@@ -1,8 +1,8 @@
 // The machine: node v brought to its first stretch that starts at or after t. The calls go round: a node seeks its operands, whose numbers are
 // higher than its own. A look is what an operator offers first from a line on: none, or a front; one that ends at line 65,536 is passed over.
 //
-// From `fresh` down to the looks, each function but `seek` is called in one place: the compiler then makes one function of them all. A call hands slices and
-// fronts on through memory, and would cost more than most looks do.
+// From `fresh` down to the looks, each function but `seek` is called in one place: the compiler then makes one function of them all. With calls
+// between them, which hand slices and fronts on through memory, the search was measurably slower.
 use crate::Front;
 use crate::NONE;
 use crate::STATE;
