@@ -4,7 +4,7 @@ use mathlib.Core.Path.{_≡_, refl, sym, ap, ap₂, subst, _∙_}
 use mathlib.Core.Logic.{inl, inr}
 use mathlib.Core.Bool.{Bool, true, false, not, cond, _||_}
 use mathlib.Core.List.{List, [], _∷_, _++_, map}
-use lib.ListN.{length, getD, take, drop, replicate, length-map, length-take}
+use lib.ListN.{length, getD, take, drop, length-map, length-take}
 use lib.Dec.{ltb}
 use borrow.Author.Tests.{lt-ltb, le-ltb, ltb-true, ltb-false, not-true, not-false}
 use native.Mathlib.Omega.{arith}
@@ -16,60 +16,26 @@ use Rattle.stretches.specs.Table.{kindAt, firstAt, secondAt}
 use Rattle.stretches.proofs.Fine.{fine-none, fine-marks}
 use Rattle.stretches.proofs.Steps.{in-onward, onward-all}
 use Rattle.stretches.proofs.Table.{fine-list}
-use Rattle.lines.specs.Lines.{lines}
-use Rattle.records.specs.Line.{meaning, says}
-use Rattle.lines.proofs.LinesLaws.{cut-few}
-use Rattle.pattern.specs.Answer.{numberOf, placeOf}
-use Rattle.pattern.specs.Reading as pattern
-use Rattle.pattern.specs.Reading.{Outcome, Accepts, Refuses, outcomeOf, numberIn, placeIn, tableOf}
-use Rattle.pattern.specs.Rows.{rowsOf}
-use Rattle.pattern.specs.declared.Parsed.{Parsed}
-use Rattle.pattern.specs.declared.Table.{Table}
-use Rattle.pattern.proofs.Outcomes.{accepts-spells}
-use Rattle.pattern.proofs.Rows.{table-tree}
+use Rattle.records.specs.Line.{says}
 use Rattle.meaning.specs.Meaning.{hits, overTable, tableIn}
-use Rattle.meaning.specs.Refusals.{Refusal, refused, accepted, longLog, refusal}
+use Rattle.meaning.specs.Refusals.{accepted, longLog, refusal}
 use Rattle.meaning.specs.Finding.{listOf, filling}
 use Rattle.meaning.specs.declared.Filled.{Filled}
-use Rattle.meaning.proofs.Finding.{long-log, bad-pattern, good-pattern, refused-list, accepted-list, accepted-number}
-use Rattle.meaning.proofs.Table.{table-answers}
+use Rattle.meaning.proofs.Run.{says-few}
+use Rattle.meaning.proofs.Finding.{good-pattern, refused-list, accepted-number}
+use Rattle.acceptance.specs.declared.Readied.{Readied}
+use Rattle.acceptance.specs.Readied.{rowsIn, readied}
+use Rattle.acceptance.proofs.Reading.{table-list}
 use Rattle.walk.specs.declared.Walked.{Walked}
-use Rattle.seek.specs.Source.{source, listOver, Good}
+use Rattle.seek.specs.Source.{source}
 use Rattle.walk.specs.Filling.{Filling, FillAll}
-use Rattle.plan.specs.Plan.{widthOf, prepared}
-use Rattle.plan.proofs.Planning.{room-enough, prepared-lists, prepared-good}
+use Rattle.plan.specs.Plan.{prepared}
+use Rattle.plan.specs.inner.Room.{Roomy}
+use Rattle.plan.proofs.Planning.{machine-list}
 use Rattle.finder.specs.declared.Finder.{Finder}
-use Rattle.finder.specs.declared.Readied.{Readied}
-use Rattle.finder.specs.Promises.{rowsIn, listIn, among, waits, handed, none, offered, lineAfter, refilled, stepOver}
-use Rattle.finder.specs.inner.Readied.{readied}
-
--- ── Reading both ──
-
-module _ (text log : List ℕ) where
-  abbrev said : ℕ → ℕ → List ℕ → Readied
-  said n p rows = record { number = n; place = p; rows = rows }
-
-  pub read-long : 61440 < length log → said 1 0 (replicate 160 0) ≡ readied text log
-  read-long h =
-      let e : refusal text log ≡ refused 1 0 = long-log text log h in
-      λ i. said (sym e i .number) (sym e i .place) (sym (ap (λ b. cond b (replicate 160 0) (tableOf (outcomeOf text) .rows)) (lt-ltb 61440 (length log) h)) i)
-
-  pub read-short : (r : Parsed) (n p : ℕ) → length log ≤ 61440 → pattern.ReadGives text r → n ≡ numberOf (r .verdict) → p ≡ placeOf (r .verdict) → said n p (r .table .rows) ≡ readied text log
-  read-short r n p h g en ep =
-      let e = says (outcomeOf text) refl in
-      λ i. said ((en ∙ (g .number ∙ ap (λ (x : Refusal). x .number) (sym e))) i) ((ep ∙ (g .place ∙ ap (λ (x : Refusal). x .place) (sym e))) i) (rows i)
-    where
-      rows : r .table .rows ≡ rowsIn text log
-      rows = ap (λ (t : Table). t .rows) (g .table) ∙ sym (ap (λ b. cond b (replicate 160 0) (tableOf (outcomeOf text) .rows)) (le-ltb 61440 (length log) h))
-
-      says : (o : Outcome) → outcomeOf text ≡ o → refusal text log ≡ refused (numberIn (outcomeOf text)) (placeIn (outcomeOf text))
-      says (Accepts q) k = good-pattern text log q h k ∙ sym (ap (λ (o : Outcome). refused (numberIn o) (placeIn o)) k)
-      says (Refuses m q) k = bad-pattern text log m q h k ∙ sym (ap (λ (o : Outcome). refused (numberIn o) (placeIn o)) k)
+use Rattle.finder.specs.Promises.{listIn, among, waits, handed, none, offered, lineAfter, refilled, stepOver}
 
 -- ── The lists ──
-
-says-few : (log : List ℕ) → length (says log) ≤ length log
-says-few log = omega (arith, length-map (lines log) meaning, cut-few 10 log)
 
 -- every table's list is fine
 pub fine-in : (rows log : List ℕ) → Fine 65536 (listIn rows log)
@@ -83,13 +49,7 @@ fine-in rows log = cases (longLog log) (λ b. Fine 65536 (cond b [] (tableIn row
 -- the list of an accepted pattern's table is the pattern's
 pub list-in : (text log : List ℕ) → refusal text log .number ≡ 0 → listIn (rowsIn text log) log ≡ listOf text log
 unfolding listIn
-list-in text log e =
-    let k = accepted-number text log e in
-    let a = accepts-spells text (k .tree) (k .reads) in
-    let s : longLog log ≡ false = le-ltb 61440 (length log) (k .brief) in
-    ap (λ b. cond b [] (tableIn (rowsIn text log) log)) s
-    ∙ ap (λ (r : List ℕ). tableIn r log) (ap (λ b. cond b (replicate 160 0) (tableOf (outcomeOf text) .rows)) s ∙ ap (λ (o : Outcome). tableOf o .rows) (k .reads))
-    ∙ table-answers (rowsOf (k .tree)) (k .tree) log (table-tree (k .tree) (a .few)) (a .few) ∙ sym (accepted-list text log (k .tree) (k .brief) (k .reads))
+list-in text log e = ap (λ b. cond b [] (tableIn (rowsIn text log) log)) (le-ltb 61440 (length log) (accepted-number text log e .brief)) ∙ table-list text log e
 
 -- ── Filling ──
 
@@ -122,23 +82,13 @@ unfolding listIn
 short-list rows log line f cells w cells′ h g =
     subst (λ (l : List Stretch). Filling (onward l line) f cells w cells′) (sym (ap (λ b. cond b [] (tableIn rows log)) (le-ltb 61440 (length log) h))) g
 
--- and rows of at most 960 words
-pub short-width : (log : List ℕ) (w : ℕ) → w ≡ widthOf log → length log ≤ 61440 → w ≤ 960
-short-width log w e h = omega (arith, says-few log)
-
 -- over the machine's table
 pub machine-fills : (rows log : List ℕ) (w : ℕ) (words t words′ : List ℕ) (line f : ℕ) (cells : List ℕ) (r : Walked) (cells′ : List ℕ)
-    → (length rows ≡ 160) × (w ≡ widthOf log) × (w ≤ 960) × (32 * w ≤ length words) → t ≡ prepared rows log w words .rows → words′ ≡ prepared rows log w words .words
+    → Roomy rows log w words → t ≡ prepared rows log w words .rows → words′ ≡ prepared rows log w words .words
     → FillAll (source words′ []) t line f cells r cells′ → Filling (onward (tableIn rows log) line) f cells r cells′
-unfolding tableIn
 machine-fills rows log w words t words′ line f cells r cells′ h et ew g =
-    let lines : length (says log) ≤ 64 * w = omega (arith, h .1) in
-    let narrow : w ≤ 1024 = omega (arith, h .2) in
-    let room = room-enough rows w (length words) (h .3) in
-    let good : Good (source words′ []) t = subst (λ (x : List ℕ). Good (source x []) t) (sym ew)
-    (subst (Good (source (prepared rows log w words .words) [])) (sym et) (prepared-good rows log w words (h .0) narrow lines room)) in
-    subst (λ (l : List Stretch). Filling (onward l line) f cells r cells′)
-    (ap₂ (λ (x y : List ℕ). listOver (source x []) y 0) ew et ∙ prepared-lists rows log w words (h .0) narrow lines room 0) (g .fills good)
+    let m = machine-list rows log w words t words′ h et ew in
+    subst (λ (l : List Stretch). Filling (onward l line) f cells r cells′) (m .1) (g .fills (m .0))
 
 -- the filling call
 module _ (text log : List ℕ) (f : ℕ) (cells : List ℕ) (r : Readied) (e : r ≡ readied text log) where

@@ -14,7 +14,7 @@ use Rattle.stretches.specs.Stretch.{Stretch, st, Rising}
 use Rattle.stretches.specs.Front.{onward, headOf, nth}
 use Rattle.stretches.specs.Filling.{flat, pairsIn, written, filled, moreAfter}
 use Rattle.stretches.specs.Lent.{pairs}
-use Rattle.stretches.proofs.Filling.{filled-front, length-flat}
+use Rattle.stretches.proofs.Filling.{pair-at, pairs-length, filled-front, length-flat}
 use Rattle.stretches.proofs.Steps.{onward-all, onward-after}
 use Rattle.meaning.specs.Refusals.{refusal}
 use Rattle.meaning.specs.Finding.{listOf}
@@ -22,7 +22,8 @@ use Rattle.meaning.proofs.Finding.{refused-list}
 use Rattle.finder.specs.declared.Finder.{Finder}
 use Rattle.finder.specs.declared.Stepped.{Stepped}
 use Rattle.finder.specs.declared.Answer.the-variants as answer
-use Rattle.finder.specs.Promises.{rowsIn, listIn, among, waits, handed, none, offered, lineAfter, refilled, stepOver, opened, stepped}
+use Rattle.acceptance.specs.Readied.{rowsIn}
+use Rattle.finder.specs.Promises.{listIn, among, waits, handed, none, offered, lineAfter, refilled, stepOver, opened, stepped}
 use Rattle.finder.specs.Whole.{answerOf, after, afterAll}
 use Rattle.finder.proofs.Calls.{fine-in, list-in}
 
@@ -30,21 +31,6 @@ distinct : _≡_ {A = Bool} true false → ⊥
 distinct z = let y : _≡_ {A = ℕ} 1 0 = ap (λ b. cond b 1 0) z in omega arith
 
 -- ── Cells as stretches ──
-
-pair-at : (cells : List ℕ) (g : ℕ) → 2 * g + 1 < length cells → getD (pairs cells) g (st 0 0) ≡ st (getD cells (2 * g) 0) (getD cells (2 * g + 1) 0)
-pair-at [] g h = absurd (omega arith)
-pair-at (s ∷ []) g h = absurd (omega arith)
-pair-at (s ∷ (e ∷ r)) zero h = refl
-pair-at (s ∷ (e ∷ r)) (suc g) h =
-    let y : suc (suc (2 * g)) ≡ 2 * suc g = omega arith in
-    let z : suc (suc (2 * g + 1)) ≡ 2 * suc g + 1 = omega arith in
-    pair-at r g (omega arith) ∙ ap₂ (λ (i j : ℕ). st (getD (s ∷ (e ∷ r)) i 0) (getD (s ∷ (e ∷ r)) j 0)) y z
-
-pairs-length : (cells : List ℕ) (n : ℕ) → length cells ≡ 2 * n → length (pairs cells) ≡ n
-pairs-length [] n h = omega arith
-pairs-length (s ∷ []) n h = absurd (omega arith)
-pairs-length (s ∷ (e ∷ r)) zero h = absurd (omega arith)
-pairs-length (s ∷ (e ∷ r)) (suc n) h = ap suc (pairs-length r n (omega arith))
 
 flat-start : (xs : List Stretch) (after : List ℕ) (m : ℕ) → m < length xs → getD (flat xs ++ after) (2 * m) 0 ≡ getD xs m (st 0 0) .start
 flat-start [] after m h = absurd (omega arith)

@@ -1,3 +1,2 @@
 pub mod Promises
 pub mod Whole
-pub mod inner

@@ -7,19 +7,15 @@ use lib.Dec.{ltb, eqb}
 use Rattle.stretches.specs.Stretch as s
 use Rattle.stretches.specs.Front.{onward}
 use Rattle.stretches.specs.Filling.{written, filled, moreAfter}
-use Rattle.pattern.specs.Reading.{outcomeOf, tableOf}
 use Rattle.meaning.specs.Meaning.{tableIn}
 use Rattle.meaning.specs.Refusals.{longLog, refusal}
+use Rattle.acceptance.specs.Readied.{rowsIn}
 use Rattle.finder.specs.declared.Finder.{Finder}
 use Rattle.finder.specs.declared.Answer.the-variants.{None, Stretch}
 use Rattle.finder.specs.declared.Opened.{Opened}
 use Rattle.finder.specs.declared.Stepped.{Stepped}
 
 -- ── Opening ──
-
--- a pattern's table; where pattern or log is refused, zeros
-abbrev pub rowsIn : List ℕ → List ℕ → List ℕ
-rowsIn pattern log = cond (longLog log) (replicate 160 0) (tableOf (outcomeOf pattern) .rows)
 
 -- no answer found yet, and the first is sought from line 0 on
 abbrev pub fresh : Bool → List ℕ → Finder

@@ -1,33 +1,28 @@
 // The finder: opens on a pattern and a log, gives the next stretch at each step, or fills all of them into lent cells.
+use acceptance::read_both;
 use lines::LOG_MAX;
 use meaning::Filled;
 use nodes::TABLE;
-use pattern::Verdict;
+use plan::FEW;
+use plan::FEW_WORDS;
+use plan::WORDS;
 use walk::Walked;
 ghost use mathlib.Core.Path.{_≡_};
 ghost use Prim.Native.Nat.{_-_, _*_, _≤_, _<_};
 ghost use lib.ListN.{length, getD};
 ghost use Rattle.stretches.specs.Front.{onward};
 ghost use Rattle.stretches.specs.Filling.{filled};
-ghost use Rattle.pattern.specs.Answer.{numberOf, placeOf};
 ghost use Rattle.meaning.specs.Meaning.{tableIn};
 ghost use Rattle.meaning.specs.Finding.{listOf, filling};
 ghost use Rattle.plan.specs.Plan.{widthOf};
+ghost use Rattle.plan.specs.inner.Room.{Roomy};
 ghost use Rattle.walk.specs.Filling.{Filling};
-ghost use Rattle.finder.specs.inner.Readied.{readied};
 ghost use Rattle.finder.specs.Promises.{opened, listIn, among, handed, lineAfter, refilled, stepped};
 
 // The answers that a finder keeps, and their cells.
 const KEPT: usize = 64;
 
 const FOUND: usize = 128;
-
-// The words of a row in a log of few lines, and of all rows then; and of all rows in any log.
-const FEW: usize = 128;
-
-const FEW_WORDS: usize = 4096;
-
-const WORDS: usize = 30720;
 
 // What a step keeps: the pattern's table, the next answers found, start then end, how many they are and how many of them were given, the line from
 // which the following ones are sought, and whether none follow. Not live: it only says none.
@@ -60,62 +55,6 @@ pub struct Stepped {
     pub finder: Finder,
 }
 
-// The refusal's number (0: accepted) and place, and the pattern's table.
-struct Readied {
-    number: usize,
-    place: usize,
-    rows: [usize; TABLE],
-}
-
-// The refusal's number of a verdict.
-fn number_of(v: Verdict) -> usize
-    ensures { λ r. ⌜ r ≡ numberOf v ⌝ }
-{
-    match v {
-        Verdict::Accepted => 0,
-        Verdict::Long => 2,
-        Verdict::Misspelt(_) => 3,
-        Verdict::Crowded => 4,
-        Verdict::Deep => 5,
-    }
-}
-
-// The refusal's place of a verdict.
-fn place_of(v: Verdict) -> usize
-    ensures { λ r. ⌜ r ≡ placeOf v ⌝ }
-{
-    match v {
-        Verdict::Accepted => 0,
-        Verdict::Long => 0,
-        Verdict::Misspelt(p) => p,
-        Verdict::Crowded => 0,
-        Verdict::Deep => 0,
-    }
-}
-
-// Measures the log, then reads the pattern.
-fn read_both(text: &[u8], log: &[u8]) -> Readied
-    ensures { λ r. ⌜ r ≡ readied (now (text .entry)) (now (log .entry)) ⌝ }
-{
-    if LOG_MAX < log.len() {
-        let rows = [0usize; TABLE];
-        return Readied {
-            number: 1,
-            place: 0,
-            rows,
-        };
-    }
-    let r = pattern::read(text);
-    let v = r.verdict;
-    let table = r.table;
-    let rows = table.rows;
-    Readied {
-        number: number_of(v),
-        place: place_of(v),
-        rows,
-    }
-}
-
 // ── The search ──
 
 // Marks the log's lines into these words, and writes the answers from the line on.
@@ -128,7 +67,7 @@ fn fill_with(
     line: u32,
     from: usize,
 ) -> Walked
-    requires { ⌜ (length (now rows) ≡ 160) × (width ≡ widthOf (now log)) × (width ≤ 960) × (32 * width ≤ length (now words)) ⌝ }
+    requires { ⌜ Roomy (now rows) (now log) width (now words) ⌝ }
     ensures { λ r. ⌜ Filling (onward (tableIn (now (rows .entry)) (now (log .entry))) line) from (now (cells .entry)) r (now (cells .exit)) ⌝ }
 {
     let table = plan::prepare(rows, log, width, words);

@@ -1,13 +1,12 @@
--- How large the numbers of a filling call's result can be. Assumes nothing.
+-- How large the numbers of a call's result can be. Assumes nothing.
 use Prim.Native.Nat.{ℕ, _≤_}
 use mathlib.Core.Path.{_≡_, refl, ap}
-use mathlib.Core.Bool.{Bool, true, false}
+use mathlib.Core.Bool.{Bool, true, false, cond}
 use mathlib.Core.List.{List}
 use lib.ListN.{length, drop, length-take, length-drop}
-use lib.Dec.{ltb}
+use lib.Dec.{ltb, eqb}
 use borrow.Author.Tests.{ltb-true, ltb-false}
 use native.Mathlib.Omega.{arith}
-use Rattle.lines.proofs.LinesLaws.{cut-few}
 use Rattle.records.specs.Line.{says}
 use Rattle.pattern.specs.Answer.{noTable, Says, numberOf, placeOf}
 use Rattle.pattern.specs.Reading.{Outcome, Accepts, Refuses, outcomeOf}
@@ -16,11 +15,11 @@ use Rattle.pattern.specs.declared.Verdict.the-variants.{Accepted, Long, Misspel
 use Rattle.pattern.specs.declared.Table.{Table}
 use Rattle.pattern.proofs.Outcomes.{refuses-says}
 use Rattle.meaning.specs.Meaning.{answersIn}
-use Rattle.meaning.specs.Refusals.{Refusal, refused, refusal}
+use Rattle.meaning.specs.Refusals.{Refusal, refused, accepted, badCount, refusal, pickRefusal}
 use Rattle.stretches.specs.Filling.{pairsIn, written}
 use Rattle.meaning.specs.Finding.{listOf}
 use Rattle.meaning.proofs.Tree.{few-answers}
-use Rattle.meaning.proofs.Run.{says-length}
+use Rattle.meaning.proofs.Run.{says-few}
 use Rattle.meaning.proofs.Finding.{long-log, bad-pattern, good-pattern, refused-list, accepted-list}
 
 -- a refusal's number and place
@@ -64,9 +63,23 @@ module _ (pattern log : List ℕ) where
           let l : length (listOf pattern log) ≡ length (answersIn p log) = ap length (accepted-list pattern log p h j) in
           record {
             refusal = record { number = omega arith; place = omega arith };
-            list = omega (arith, few-answers p (says log), says-length log, cut-few 10 log);
+            list = omega (arith, few-answers p (says log), says-few log);
           }
 
   -- the number of stretches written
   pub few-written : (f : ℕ) (cells : List ℕ) → length (written (listOf pattern log) f cells) ≤ 61440
   few-written f cells = omega (arith, length-take (pairsIn cells) (drop f (listOf pattern log)), length-drop f (listOf pattern log), sized .list)
+
+-- of a picking call
+module _ (pattern log : List ℕ) (k : ℕ) where
+  abbrev which : Bool → Bool → Refusal
+  which a b = cond a (cond b (refused 10 0) accepted) (refusal pattern log)
+
+  pub pick-small : (pickRefusal pattern log k .number ≤ 10) × (pickRefusal pattern log k .place ≤ 1024)
+  unfolding pickRefusal
+  pick-small = go (eqb (refusal pattern log .number) 0) (badCount k)
+    where
+      go : (a b : Bool) → (which a b .number ≤ 10) × (which a b .place ≤ 1024)
+      go true true = (omega arith, omega arith)
+      go true false = (omega arith, omega arith)
+      go false b = let s = sized pattern log .refusal in (omega (arith, s .number), s .place)

@@ -1,13 +1,14 @@
 -- Laws of the refusals and of the list of a pattern in a log: each refusal by its cause, the list where both are accepted, that 9 never comes,
--- and the undamaged run for that list. Assumes nothing.
+-- the undamaged run for that list, and when the picking call is accepted. Assumes nothing.
 use Prim.Native.Nat.{ℕ, _≤_, _<_}
 use mathlib.Core.Path.{_≡_, refl, sym, ap, ap₂, _∙_}
-use mathlib.Core.Bool.{Bool, true, false, cond}
+use mathlib.Core.Bool.{Bool, true, false, not, cond, _&&_}
 use mathlib.Core.List.{List, [], _++_}
 use lib.ListN.{length, length-append}
-use lib.Dec.{ltb, eqb}
-use borrow.Author.Tests.{ltb-true, ltb-false, lt-ltb, le-ltb, eqb-true}
+use lib.Dec.{leb, ltb, eqb}
+use borrow.Author.Tests.{leb-true, le-leb, ltb-true, ltb-false, lt-ltb, le-ltb, eqb-true, eqb-false, eq-eqb, not-false}
 use native.Mathlib.Omega.{arith}
+use Rattle.basics.proofs.Basics.{and-true, true-and}
 use Rattle.stretches.specs.Run.{inRun}
 use Rattle.lines.specs.Lines.{lines, Whole}
 use Rattle.records.specs.Line.{says}
@@ -15,7 +16,7 @@ use Rattle.pattern.specs.Pattern.{Pattern}
 use Rattle.pattern.specs.Reading.{Outcome, Accepts, Refuses, outcomeOf}
 use Rattle.pattern.proofs.Outcomes.{refuses-says}
 use Rattle.meaning.specs.Meaning.{answersIn}
-use Rattle.meaning.specs.Refusals.{Refusal, refused, accepted, flood, ofPattern, refusal}
+use Rattle.meaning.specs.Refusals.{Refusal, refused, accepted, flood, badCount, ofPattern, refusal, pickRefusal}
 use Rattle.meaning.specs.Finding.{answersBy, listOf}
 use Rattle.meaning.proofs.Tree.{few-answers}
 use Rattle.meaning.proofs.Run.{says-length, run-bytes}
@@ -91,3 +92,23 @@ module _ (pattern a run b : List ℕ) (e : refusal pattern (a ++ (run ++ b)) ≡
       let j = accepted-by pattern run run-accepted in
       ap (inRun (length (lines a)) (length (lines run))) (accepted-list pattern (a ++ (run ++ b)) (k .tree) (k .brief) (k .reads))
       ∙ (run-bytes (k .tree) a run b wa wr ∙ sym (accepted-list pattern run (k .tree) (j .brief) (k .reads)))
+
+-- the picking call is accepted exactly where pattern and log are, and k is 1 to 16
+module _ (pattern log : List ℕ) (k : ℕ) where
+  abbrev which : Bool → Bool → Refusal
+  which a b = cond a (cond b (refused 10 0) accepted) (refusal pattern log)
+
+  pub pick-accepted : pickRefusal pattern log k .number ≡ 0 → (refusal pattern log .number ≡ 0) × (1 ≤ k) × (k ≤ 16)
+  unfolding pickRefusal
+  pick-accepted e = go (eqb (refusal pattern log .number) 0) (badCount k) refl refl e
+    where
+      go : (a b : Bool) → eqb (refusal pattern log .number) 0 ≡ a → badCount k ≡ b → which a b .number ≡ 0 → (refusal pattern log .number ≡ 0) × (1 ≤ k) × (k ≤ 16)
+      go true true i j h = absurd (omega arith)
+      go true false i j h =
+          let c = and-true (leb 1 k) (leb k 16) (not-false (leb 1 k && leb k 16) j) in
+          (eqb-true (refusal pattern log .number) 0 i, leb-true 1 k (c .0), leb-true k 16 (c .1))
+      go false b i j h = absurd (eqb-false (refusal pattern log .number) 0 i h)
+
+  pub pick-allowed : refusal pattern log .number ≡ 0 → 1 ≤ k → k ≤ 16 → pickRefusal pattern log k .number ≡ 0
+  unfolding pickRefusal
+  pick-allowed e h i = ap₂ (λ a b. which a (not b) .number) (eq-eqb (refusal pattern log .number) 0 e) (true-and (leb 1 k) (leb k 16) (le-leb 1 k h) (le-leb k 16 i))

@@ -1,4 +1,4 @@
--- The refusals: docs/FORMATS.md, "Refusals", when each applies, 1 to 9 in number order; and which a call gets, the lowest that applies.
+-- The refusals: docs/FORMATS.md, "Refusals", when each applies, 1 to 10 in number order; and which a call gets, the lowest that applies.
 -- A refusal has its number and a place, 0 but for 3; number 0: accepted.
 -- Assumes nothing.
 use Prim.Native.Nat.{ℕ, _%_}
@@ -77,6 +77,10 @@ disordered (l ∷ ls) = disorderedList l || disordered ls
 abbrev pub flood : List Stretch → List ℕ → Refusal
 flood l log = cond (ltb (length (lines log)) (length l)) (refused 9 0) accepted
 
+-- 10, bad count: the number of picks asked for not 1 to 16
+abbrev pub badCount : ℕ → Bool
+badCount k = not (leb 1 k && leb k 16)
+
 -- ── Which a call gets ──
 
 -- over what the pattern is read as, and the log: 2 to 5, then 9
@@ -87,6 +91,10 @@ ofPattern (Accepts p) log = flood (answersIn p log) log
 -- over a pattern and a log: 1, then these
 unfoldable pub refusal : List ℕ → List ℕ → Refusal
 refusal pattern log = cond (longLog log) (refused 1 0) (ofPattern (outcomeOf pattern) log)
+
+-- of the picking call: these, then 10
+unfoldable pub pickRefusal : List ℕ → List ℕ → ℕ → Refusal
+pickRefusal pattern log k = cond (eqb (refusal pattern log .number) 0) (cond (badCount k) (refused 10 0) accepted) (refusal pattern log)
 
 -- over lent lists, given whether the call is miscalled: 6, 7, 8; its number, the place being 0
 abbrev pub lowest : Bool → List ℕ → List ℕ → ℕ

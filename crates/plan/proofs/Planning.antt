@@ -24,7 +24,8 @@ use Rattle.marks.proofs.Packed.{length-packed, flags-packed-short}
 use Rattle.records.specs.declared.Line.{Line}
 use Rattle.records.specs.Line.{says}
 use Rattle.records.specs.Leaf.{codeIs, frameIs}
-use Rattle.meaning.specs.Meaning.{hits, overTable}
+use Rattle.meaning.specs.Meaning.{hits, overTable, tableIn}
+use Rattle.meaning.proofs.Run.{says-few}
 use Rattle.seek.specs.Source.{source, lent, ownList, given, listOver, Good}
 use Rattle.folding.specs.Fold.{Folding, folding, withLeaf, folded}
 use Rattle.seek.proofs.Nodes.{no-operator}
@@ -32,7 +33,8 @@ use Rattle.folding.proofs.FoldLeaf.{Before, leaf-wide, leaf-kind, leaf-first, l
 use Rattle.folding.proofs.FoldLaws.{fold-lists, fold-good}
 use Rattle.leaves.specs.Leaves.{held, numberIn, Gathered, are, leavesOf}
 use Rattle.marking.specs.Rows.{leafHits, rowsFrom, rowsThen, marked}
-use Rattle.plan.specs.Plan.{planNode, plannedTo, planned, prepared}
+use Rattle.plan.specs.Plan.{widthOf, planNode, plannedTo, planned, prepared}
+use Rattle.plan.specs.inner.Room.{Roomy}
 use Rattle.leaves.proofs.Gathering.{leaf-few, leaf-found, leaf-is}
 use Rattle.marking.proofs.Marking.{then-length}
 
@@ -281,6 +283,22 @@ module _ (rows log : List ℕ) (w : ℕ) (words : List ℕ) (wide : length rows 
   pub prepared-good : Good (source (prepared rows log w words .words) []) (prepared rows log w words .rows)
   prepared-good =
       subst (λ (f : Folding). Good (source (f .words) []) (f .rows)) (sym is-made) (made-good rows (g .leaves) (g .count) (says log) w words wide narrow lines room (leaf-found rows))
+
+-- in words with room the machine's table is fine, and its list is the one that the pattern's table has in the log
+pub machine-list : (rows log : List ℕ) (w : ℕ) (words t words′ : List ℕ) → Roomy rows log w words → t ≡ prepared rows log w words .rows → words′ ≡ prepared rows log w words .words
+    → Good (source words′ []) t × (listOver (source words′ []) t 0 ≡ tableIn rows log)
+unfolding tableIn
+machine-list rows log w words t words′ h et ew =
+    let lines : length (says log) ≤ 64 * w = omega (arith, h .1) in
+    let narrow : w ≤ 1024 = omega (arith, h .2) in
+    let room = room-enough rows w (length words) (h .3) in (
+      subst (λ (x : List ℕ). Good (source x []) t) (sym ew) (subst (Good (source (prepared rows log w words .words) [])) (sym et) (prepared-good rows log w words (h .0) narrow lines room)),
+      ap₂ (λ (x y : List ℕ). listOver (source x []) y 0) ew et ∙ prepared-lists rows log w words (h .0) narrow lines room 0,
+    )
+
+-- a log that is not too long has rows of at most 960 words
+pub short-width : (log : List ℕ) (w : ℕ) → w ≡ widthOf log → length log ≤ 61440 → w ≤ 960
+short-width log w e h = omega (arith, says-few log)
 
 -- ── The plan's loop ──
 

@@ -15,6 +15,13 @@ ghost use mathlib.Core.Path.{_≡_};
 ghost use Prim.Native.Nat.{_≤_, _<_};
 ghost use Rattle.plan.specs.Plan.{widthOf, planNode, planned, prepared};
 
+// The words of a row in a log of few lines, and of all rows then; and of all rows in any log.
+pub const FEW: usize = 128;
+
+pub const FEW_WORDS: usize = 4096;
+
+pub const WORDS: usize = 30720;
+
 // How many words a row of the log's lines has.
 pub fn width(log: &[u8]) -> usize
     ensures { λ r. ⌜ r ≡ widthOf (now (log .entry)) ⌝ }

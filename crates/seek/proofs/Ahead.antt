@@ -10,7 +10,7 @@ use Rattle.stretches.proofs.Fronts.{front-good}
 use Rattle.stretches.proofs.Steps.{onward-none, onward-at}
 use Rattle.seek.specs.declared.Front.{Front}
 use Rattle.seek.specs.Source.{Source, listOver, Good}
-use Rattle.seek.specs.First.{atF, noneF, front, first, FirstOf, Ahead}
+use Rattle.seek.specs.First.{atF, noneF, front, first, Ready, FirstOf, Ahead}
 use Rattle.seek.specs.inner.Looks.{Sought}
 use Rattle.seek.proofs.Nodes.{fine}
 
@@ -64,3 +64,21 @@ module _ {src : Source} {rows s : List ℕ} {v t : ℕ} {f : Front} {s' : List �
 
   pub first-at : f .start < 65536 → t ≤ f .start → FirstOf src rows s v t f s' × Ahead t f
   first-at one lo = (handed (λ good is. refl), record { from = λ z. lo; small = omega arith; none = λ n. absurd (omega arith) })
+
+-- ── A step over node 0's stretches ──
+
+-- those from a line on
+abbrev pub rest : Source → List ℕ → ℕ → List Stretch
+rest src rows t = onward (listOver src rows 0) t
+
+module _ {src : Source} {rows s : List ℕ} {t : ℕ} {f : Front} {s' : List ℕ} (g : FirstOf src rows s 0 t f s') (good : Good src rows) (rdy : Ready src rows s) where
+  pub step-ready : Ready src rows s'
+  step-ready = g .finds (omega arith) good rdy .ready
+
+  pub step-none : 65536 ≤ f .start → rest src rows t ≡ []
+  unfolding first
+  step-none n = front-none (listOver src rows 0) (fine src rows good 0 (omega arith)) t f (g .finds (omega arith) good rdy .is) n .1
+
+  pub step-some : f .start < 65536 → rest src rows t ≡ st (f .start) (f .end) ∷ rest src rows (f .start + 1)
+  unfolding first
+  step-some lt = front-some (listOver src rows 0) (fine src rows good 0 (omega arith)) t f (g .finds (omega arith) good rdy .is) lt .1

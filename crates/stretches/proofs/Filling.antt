@@ -1,7 +1,7 @@
 -- Laws of filling: what stands in the cells is the written answers, a call from number 0 that says "done" has written the whole list, and cells into which
 -- one answer is written after another.
 -- Assumes nothing.
-use Prim.Native.Nat.{ℕ, zero, suc, _+_, _*_, _≤_}
+use Prim.Native.Nat.{ℕ, zero, suc, _+_, _*_, _≤_, _<_}
 use mathlib.Core.Path.{_≡_, refl, sym, ap, ap₂, _∙_}
 use mathlib.Core.Bool.{false}
 use mathlib.Core.List.{List, [], _∷_, _++_, append-assoc}
@@ -9,7 +9,7 @@ use lib.ListN.{length, getD, set, take, drop, length-append, length-take, length
 use lib.Seq.{drop-cons, set-at, take-all, take-at}
 use borrow.Author.Tests.{ltb-false, le-ltb}
 use native.Mathlib.Omega.{arith}
-use Rattle.stretches.specs.Stretch.{Stretch}
+use Rattle.stretches.specs.Stretch.{Stretch, st}
 use Rattle.stretches.specs.Filling.{flat, pairsIn, written, filled, moreAfter}
 use Rattle.stretches.specs.Lent.{pairs}
 
@@ -20,6 +20,22 @@ length-flat (x ∷ l) = omega (arith, length-flat l)
 pub pairs-flat : (l : List Stretch) → pairs (flat l) ≡ l
 pairs-flat [] = refl
 pairs-flat (x ∷ l) = ap (λ (r : List Stretch). x ∷ r) (pairs-flat l)
+
+-- cells as stretches
+pub pair-at : (cells : List ℕ) (g : ℕ) → 2 * g + 1 < length cells → getD (pairs cells) g (st 0 0) ≡ st (getD cells (2 * g) 0) (getD cells (2 * g + 1) 0)
+pair-at [] g h = absurd (omega arith)
+pair-at (s ∷ []) g h = absurd (omega arith)
+pair-at (s ∷ (e ∷ r)) zero h = refl
+pair-at (s ∷ (e ∷ r)) (suc g) h =
+    let y : suc (suc (2 * g)) ≡ 2 * suc g = omega arith in
+    let z : suc (suc (2 * g + 1)) ≡ 2 * suc g + 1 = omega arith in
+    pair-at r g (omega arith) ∙ ap₂ (λ (i j : ℕ). st (getD (s ∷ (e ∷ r)) i 0) (getD (s ∷ (e ∷ r)) j 0)) y z
+
+pub pairs-length : (cells : List ℕ) (n : ℕ) → length cells ≡ 2 * n → length (pairs cells) ≡ n
+pairs-length [] n h = omega arith
+pairs-length (s ∷ []) n h = absurd (omega arith)
+pairs-length (s ∷ (e ∷ r)) zero h = absurd (omega arith)
+pairs-length (s ∷ (e ∷ r)) (suc n) h = ap suc (pairs-length r n (omega arith))
 
 -- the first cells hold what was written
 pub filled-front : (l : List Stretch) (f : ℕ) (cells : List ℕ) → pairs (take (2 * length (written l f cells)) (filled l f cells)) ≡ written l f cells

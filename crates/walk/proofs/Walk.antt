@@ -1,7 +1,7 @@
 -- The walk over answers: steps pass over answers, and write them into cells. One law for each return and turn. Assumes nothing.
 use mathlib.Core.Path.{_≡_, refl, sym, ap, subst, _∙_}
 use mathlib.Core.Bool.{Bool, true, false}
-use mathlib.Core.List.{List, [], _∷_}
+use mathlib.Core.List.{List}
 use Prim.Native.Nat.{ℕ, suc, _+_, _*_, _/_, _≤_, _<_}
 use native.Mathlib.Omega.{arith}
 use lib.ListN.{length, set, take, drop, replicate, length-take, length-drop, drop-of-length-le}
@@ -10,36 +10,16 @@ use lib.Dec.{ltb}
 use borrow.Author.Tests.{ltb-true, ltb-false, lt-ltb, le-ltb}
 use Rattle.basics.proofs.Basics.{cases}
 use Rattle.stretches.specs.Stretch.{Stretch, st}
-use Rattle.stretches.specs.Front.{onward}
 use Rattle.stretches.specs.Filling.{pairsIn, written, moreAfter}
 use Rattle.stretches.proofs.Filling.{drop-step, Partly, partly-more, partly-done, partly-all}
 use Rattle.seek.specs.declared.Front.{Front}
-use Rattle.seek.specs.Source.{Source, listOver, Good}
-use Rattle.seek.specs.First.{first, Ready, FirstOf}
-use Rattle.seek.proofs.Nodes.{fine}
+use Rattle.seek.specs.Source.{Source, Good}
+use Rattle.seek.specs.First.{Ready, FirstOf}
 use Rattle.seek.proofs.State.{ready-none}
-use Rattle.seek.proofs.Ahead.{front-none, front-some}
+use Rattle.seek.proofs.Ahead.{rest, step-ready, step-none, step-some}
 use Rattle.walk.specs.declared.Walked.{Walked}
 use Rattle.walk.specs.Filling.{Filling, FillAll}
 use Rattle.walk.specs.inner.Walks.{PassedOver, Put}
-
--- ── A step of the walk ──
-
--- the answers from a line on
-abbrev pub rest : Source → List ℕ → ℕ → List Stretch
-rest src rows t = onward (listOver src rows 0) t
-
-module _ {src : Source} {rows s : List ℕ} {t : ℕ} {f : Front} {s' : List ℕ} (g : FirstOf src rows s 0 t f s') (good : Good src rows) (rdy : Ready src rows s) where
-  step-ready : Ready src rows s'
-  step-ready = g .finds (omega arith) good rdy .ready
-
-  step-none : 65536 ≤ f .start → rest src rows t ≡ []
-  unfolding first
-  step-none n = front-none (listOver src rows 0) (fine src rows good 0 (omega arith)) t f (g .finds (omega arith) good rdy .is) n .1
-
-  step-some : f .start < 65536 → rest src rows t ≡ st (f .start) (f .end) ∷ rest src rows (f .start + 1)
-  unfolding first
-  step-some lt = front-some (listOver src rows 0) (fine src rows good 0 (omega arith)) t f (g .finds (omega arith) good rdy .is) lt .1
 
 -- ── Answers passed over ──
 

@@ -1,5 +1,6 @@
 -- `finder::fill_from` meets its contract. Assumes nothing.
-use Rattle.finder.proofs.Calls.{long-none, short-list, short-width}
+use Rattle.plan.proofs.Planning.{short-width}
+use Rattle.finder.proofs.Calls.{long-none, short-list}
 use borrow.Author.Needs.{needs}
 use Rattle.finder.proofs.fill_from.Statement.{statement}
 use Rattle.finder.proofs.fill_from.Tie as tie

@@ -2,7 +2,7 @@
 use mathlib.Core.Path.{ap}
 use lib.Dec.{eqb}
 use Rattle.finder.specs.declared.Opened.{Opened}
-use Rattle.finder.specs.declared.Readied.{Readied}
+use Rattle.acceptance.specs.declared.Readied.{Readied}
 use Rattle.finder.specs.Promises.{fresh}
 use borrow.Author.Needs.{needs}
 use Rattle.finder.proofs.open.Statement.{statement}

@@ -1,8 +1,8 @@
--- `finder::read_both` meets its contract. Assumes nothing.
-use Rattle.finder.proofs.Calls.{read-long, read-short}
+-- `acceptance::read_both` meets its contract. Assumes nothing.
+use Rattle.acceptance.proofs.Reading.{read-long, read-short}
 use borrow.Author.Needs.{needs}
-use Rattle.finder.proofs.read_both.Statement.{statement}
-use Rattle.finder.proofs.read_both.Tie as tie
+use Rattle.acceptance.proofs.read_both.Statement.{statement}
+use Rattle.acceptance.proofs.read_both.Tie as tie
 
 returns : tie.Need-returns
 returns c = read-long (c .before .before .before .args .text .now) (c .before .before .before .args .log .now) (c .if1 .taken)

@@ -1,0 +1,2 @@
+-- What reading both shows, and the list of an accepted pattern's table.
+pub mod Reading
