@@ -7,11 +7,10 @@ use lib.ListN.{length}
 use borrow.Author.Tests.{lt-ltb, le-ltb}
 use native.Mathlib.Omega.{arith}
 use Rattle.lines.specs.Lines.{offset, stretchLines, stretchStart}
-use Rattle.lines.proofs.LinesLaws.{cut-few}
 use Rattle.lines.proofs.StretchLaws.{stretch-part}
 use Rattle.records.specs.Line.{says}
 use Rattle.records.proofs.Walk.{damaged-few}
-use Rattle.meaning.proofs.Run.{says-length}
+use Rattle.meaning.proofs.Run.{says-few}
 use Rattle.marking.specs.declared.pass.Counted.{Counted}
 use Rattle.marking.specs.Rows.{counted}
 use Rattle.finder_c.specs.Packing.{packedCount, packedLines}
@@ -20,7 +19,7 @@ use Rattle.finder_c.specs.Packing.{packedCount, packedLines}
 
 pub count-small : (log : List ℕ) (c : Counted) → c ≡ counted log → length log ≤ 61440 → (c .damaged ≤ 61440) × (c .lines ≤ 61440)
 count-small log c e h =
-    let few : length (says log) ≤ 61440 = omega (arith, says-length log, cut-few 10 log) in
+    let few : length (says log) ≤ 61440 = omega (arith, says-few log) in
     (omega (arith, ap (λ (x : Counted). x .damaged) e, damaged-few (says log), few), omega (arith, ap (λ (x : Counted). x .lines) e, few))
 
 pub count-long : (log : List ℕ) → 61440 < length log → 1 ≡ packedCount log

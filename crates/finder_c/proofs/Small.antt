@@ -20,7 +20,10 @@ use Rattle.stretches.proofs.Taking.{nth-in, or-taken, and-taken}
 use Rattle.meaning.specs.declared.Filled.{Filled}
 use Rattle.meaning.specs.Finding.{filling}
 use Rattle.stretches.proofs.Fine.{AllFine, fine-answers}
-use Rattle.meaning.proofs.Bounds.{sized, few-written}
+use Rattle.meaning.specs.declared.Reply.{Reply}
+use Rattle.meaning.proofs.Bounds.{sized, few-written, pick-small}
+use Rattle.picks.specs.Picking.{picking}
+use Rattle.picks.proofs.Picking.{picked-few}
 use Rattle.meaning.specs.Refusals.{miscalled, miscalledTaking, miscut, disordered, lowest, listsRefusal, takingRefusal}
 use Rattle.taking.specs.declared.Taken.{Taken}
 use Rattle.lists.specs.Filling.{listAnswers, wrote, notFilled, fillResult}
@@ -37,6 +40,15 @@ filling-small pattern log f cells r e =
       omega (arith, ap (λ (x : Filled). x .number) e, s .refusal .number),
       omega (arith, ap (λ (x : Filled). x .place) e, s .refusal .place),
       omega (arith, ap (λ (x : Filled). x .count) e, few-written pattern log f cells),
+    )
+
+-- of a picking call
+pub picking-small : (pattern log : List ℕ) (k : ℕ) (cells : List ℕ) (r : Reply) → r ≡ picking pattern log k cells → (r .number ≤ 10) × (r .place ≤ 1024) × (r .count ≤ 65536)
+picking-small pattern log k cells r e =
+    let s = pick-small pattern log k in (
+      omega (arith, ap (λ (x : Reply). x .number) e, s .0),
+      omega (arith, ap (λ (x : Reply). x .place) e, s .1),
+      omega (arith, ap (λ (x : Reply). x .count) e, picked-few pattern log k cells),
     )
 
 -- ── Over lent lists ──

@@ -6,6 +6,7 @@ use mathlib.Core.List.{List}
 use lib.ListN.{length, take, drop}
 use Rattle.lines.specs.Lines.{stretchLines, stretchStart}
 use Rattle.meaning.specs.declared.Filled.{Filled}
+use Rattle.meaning.specs.declared.Reply.{Reply}
 use Rattle.meaning.specs.Refusals.{longLog}
 use Rattle.marking.specs.Rows.{counted}
 use Rattle.taking.specs.declared.Taken.{Taken}
@@ -16,6 +17,10 @@ bit b = cond b 1 0
 -- bits 0 to 7 the refusal's number (0: accepted), bit 8 "more", bits 16 to 31 the place, bits 32 to 63 the stretches written
 abbrev pub packedFill : Filled → ℕ
 packedFill r = r .number + 256 * bit (r .more) + 65536 * r .place + 4294967296 * r .count
+
+-- the same with bit 8 zero, bits 32 to 63 the count: of picks
+abbrev pub packedReply : Reply → ℕ
+packedReply r = r .number + 65536 * r .place + 4294967296 * r .count
 
 -- bits 0 to 7 the refusal's number (0: accepted), bit 8 set where there is an answer, bits 16 to 31 its start, bits 32 to 47 its end
 abbrev pub packedTaken : Taken → ℕ
@@ -62,6 +67,13 @@ pub record ReadsFill (w : ℕ) (r : Filled) : Type 0 where
   pub fits : w < 2 ^ 64
   pub number : refusalIn w ≡ r .number
   pub more : flagIn w ≡ bit (r .more)
+  pub place : placeIn w ≡ r .place
+  pub count : writtenIn w ≡ r .count
+
+pub record ReadsReply (w : ℕ) (r : Reply) : Type 0 where
+  pub fits : w < 2 ^ 64
+  pub number : refusalIn w ≡ r .number
+  pub more : flagIn w ≡ 0
   pub place : placeIn w ≡ r .place
   pub count : writtenIn w ≡ r .count
 

@@ -1,14 +1,16 @@
 // The calls from C: numbers and slices in, one packed number out. include/finder.h declares them.
 use lines::LOG_MAX;
 use meaning::Filled;
+use meaning::Reply;
 use taking::Taken;
 ghost use mathlib.Core.Path.{_≡_};
 ghost use Prim.Native.Nat.{_≤_};
 ghost use Rattle.stretches.specs.Filling.{filled};
 ghost use Rattle.meaning.specs.Finding.{listOf, filling};
+ghost use Rattle.picks.specs.Picking.{picksIn, picking};
 ghost use Rattle.lists.specs.Filling.{fillResult, fillCells};
 ghost use Rattle.taking.specs.Taking.{takeResult, takeCells};
-ghost use Rattle.finder_c.specs.Packing.{packedFill, packedTaken, packedCount, packedLines, bit};
+ghost use Rattle.finder_c.specs.Packing.{packedFill, packedReply, packedTaken, packedCount, packedLines, bit};
 
 // The bit of a flag.
 fn flag(b: bool) -> u64
@@ -25,6 +27,14 @@ fn packed(r: Filled) -> u64
     let more = flag(r.more);
     let low = r.number as u64 + 256 * more;
     low + 65536 * (r.place as u64) + 4294967296 * (r.count as u64)
+}
+
+// The result of a picking call in one number.
+fn packed_reply(r: Reply) -> u64
+    requires { ⌜ (r .number ≤ 10) × (r .place ≤ 1024) × (r .count ≤ 65536) ⌝ }
+    ensures { λ n. ⌜ n ≡ packedReply r ⌝ }
+{
+    r.number as u64 + 65536 * (r.place as u64) + 4294967296 * (r.count as u64)
 }
 
 // The result of a taking call in one number.
@@ -45,6 +55,16 @@ pub extern "C" fn finder_fill(pattern: &[u8], log: &[u8], cells: &mut [u32], fro
 {
     let r = finder::fill(pattern, log, cells, from as usize);
     packed(r)
+}
+
+// Up to k picks of a pattern's stretches in a log, into the cells.
+#[no_mangle]
+pub extern "C" fn finder_pick(pattern: &[u8], log: &[u8], k: u32, cells: &mut [u32]) -> u64
+    ensures { λ r. ⌜ r ≡ packedReply (picking (now (pattern .entry)) (now (log .entry)) k (now (cells .entry))) ⌝ }
+    ensures { λ r. ⌜ now (cells .exit) ≡ filled (picksIn (now (pattern .entry)) (now (log .entry)) k) 0 (now (cells .entry)) ⌝ }
+{
+    let r = picks::pick(pattern, log, k as usize, cells);
+    packed_reply(r)
 }
 
 // The stretches of an operator over lent lists, from number `from` on, into the cells.

@@ -1,0 +1,4 @@
+-- Laws of picks, and what each return of the call's functions shows.
+pub mod Laws
+pub mod Passes
+pub mod Picking

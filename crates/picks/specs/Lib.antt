@@ -1,0 +1,3 @@
+pub mod Picks
+pub mod Picking
+pub mod inner

@@ -1,0 +1,3 @@
+-- What only contracts of private functions and laws cite: no public promise does.
+pub mod Remaining
+pub mod Passes
