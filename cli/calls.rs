@@ -14,12 +14,23 @@ extern "C" {
         cell_count: usize,
         from: u64,
     ) -> u64;
+    fn finder_pick(
+        pattern: *const u8,
+        pattern_len: usize,
+        log: *const u8,
+        log_len: usize,
+        k: u32,
+        cells: *mut u32,
+        cell_count: usize,
+    ) -> u64;
     fn finder_count(log: *const u8, log_len: usize) -> u64;
     fn finder_lines(log: *const u8, log_len: usize, first: u32, last: u32) -> u64;
 }
 
 pub const LOG_MAX: usize = 61_440;
 pub const PATTERN_MAX: usize = 1_024;
+pub const PICKS_MAX: usize = 16;
+const BAD_COUNT: u64 = 10;
 
 /// The refusals that a pattern over a log can get.
 #[derive(Clone, Copy)]
@@ -29,6 +40,7 @@ pub enum Refusal {
     Misspelt { place: usize },
     Crowded,
     Deep,
+    BadCount { k: u32 },
 }
 
 /// Why there is no answer: a refusal, or a result that the promises rule out.
@@ -83,6 +95,26 @@ pub fn stretches(pattern: &[u8], log: &[u8], lines: usize) -> Result<Vec<Stretch
     if result >> 8 & 1 == 1 {
         return Err(Broken("more stretches than lines"));
     }
+    written(&cells, result, lines)
+}
+
+/// At most k picks of a pattern in a log of so many lines, in the order of picking.
+pub fn picks(pattern: &[u8], log: &[u8], lines: usize, k: u32) -> Result<Vec<Stretch>, Unanswered> {
+    let mut cells = [0; 2 * PICKS_MAX];
+    let result = unsafe { finder_pick(pattern.as_ptr(), pattern.len(), log.as_ptr(), log.len(), k, cells.as_mut_ptr(), cells.len()) };
+    if result & 0xff == BAD_COUNT {
+        return Err(Refused(Refusal::BadCount { k }));
+    }
+    accepted(result)?;
+    let picks = written(&cells, result, lines)?;
+    if picks.len() > k as usize {
+        return Err(Broken("more picks than asked for"));
+    }
+    Ok(picks)
+}
+
+/// The stretches that an accepted call has written into cells.
+fn written(cells: &[u32], result: u64, lines: usize) -> Result<Vec<Stretch>, Unanswered> {
     let written = cells.get(..2 * (result >> 32) as usize).ok_or(Broken("more stretches than cells"))?;
     let found: Vec<Stretch> = written.chunks_exact(2).map(|pair| Stretch { first: pair[0], last: pair[1] }).collect();
     let sound = found.iter().all(|stretch| stretch.first <= stretch.last && (stretch.last as usize) < lines);

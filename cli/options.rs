@@ -23,6 +23,8 @@ pub enum Patterns {
 
 pub struct Search {
     pub form: Form,
+    /// How many picks are wanted, instead of all stretches.
+    pub picks: Option<u32>,
     pub patterns: Patterns,
     pub log: Source,
 }
@@ -37,6 +39,7 @@ pub enum Request {
 #[derive(Default)]
 struct Met {
     form: Option<Form>,
+    picks: Option<u32>,
     file: Option<OsString>,
     help: bool,
     version: bool,
@@ -68,26 +71,34 @@ impl Met {
             b"help" => self.help = true,
             b"version" => self.version = true,
             b"file" => self.file(rest.next())?,
-            _ => match option.strip_prefix(b"file=") {
-                Some(file) => self.file(Some(OsString::from_vec(file.to_vec())))?,
-                None => return Err(format!("unknown option --{}", prose(option))),
-            },
+            b"pick" => self.picks(rest.next())?,
+            _ => return self.long_with_value(option),
         }
         Ok(())
     }
 
-    /// Short options behind one dash; what follows an `f` is its file.
+    fn long_with_value(&mut self, option: &[u8]) -> Result<(), String> {
+        let value = |name: &[u8]| option.strip_prefix(name).map(|value| OsStr::from_bytes(value).to_owned());
+        if let Some(file) = value(b"file=") {
+            self.file(Some(file))
+        } else if let Some(number) = value(b"pick=") {
+            self.picks(Some(number))
+        } else {
+            Err(format!("unknown option --{}", prose(option)))
+        }
+    }
+
+    /// Short options behind one dash; what follows an `f` is its file, and what follows a `p` its number.
     fn short(&mut self, options: &[u8], rest: &mut impl Iterator<Item = OsString>) -> Result<(), String> {
         for (i, option) in options.iter().enumerate() {
+            let mut value = || Some(OsStr::from_bytes(&options[i + 1..]).to_owned()).filter(|value| !value.is_empty()).or_else(|| rest.next());
             match option {
                 b's' => self.form(Form::Show)?,
                 b'c' => self.form(Form::Count)?,
                 b'q' => self.form(Form::Quiet)?,
                 b'h' => self.help = true,
-                b'f' => {
-                    let file = Some(OsStr::from_bytes(&options[i + 1..]).to_owned()).filter(|file| !file.is_empty());
-                    return self.file(file.or_else(|| rest.next()));
-                }
+                b'f' => return self.file(value()),
+                b'p' => return self.picks(value()),
                 &unknown => return Err(format!("unknown option -{}", shown(unknown))),
             }
         }
@@ -109,6 +120,17 @@ impl Met {
         }
     }
 
+    /// Which numbers are good is for the call to say; one that does not fit becomes the largest, which is as bad.
+    fn picks(&mut self, number: Option<OsString>) -> Result<(), String> {
+        let number = number.filter(|number| !number.is_empty()).ok_or("-p needs a number of picks")?;
+        let digits = number.to_str().filter(|text| text.bytes().all(|byte| byte.is_ascii_digit()));
+        let k = digits.ok_or_else(|| format!("-p needs a number of picks, not {}", name(&number)))?.parse().unwrap_or(u32::MAX);
+        match self.picks.replace(k) {
+            None => Ok(()),
+            Some(_) => Err("-p is given twice".into()),
+        }
+    }
+
     fn request(mut self) -> Result<Request, String> {
         if self.help {
             return Ok(Request::Help);
@@ -117,6 +139,9 @@ impl Met {
             return Ok(Request::Version);
         }
         let form = self.form.unwrap_or(Form::Stretches);
+        if form == Form::Sheet && self.picks.is_some() {
+            return Err("--sheet prints every stretch, not picks".into());
+        }
         let patterns = match self.file.take() {
             Some(_) if form == Form::Sheet => return Err("--sheet takes one pattern, not -f".into()),
             Some(file) => Patterns::From(Source::named(file)),
@@ -129,6 +154,6 @@ impl Met {
         if matches!((&patterns, &log), (Patterns::From(Source::Standard), Source::Standard)) {
             return Err("patterns and log cannot both come from standard input".into());
         }
-        Ok(Request::Search(Search { form, patterns, log }))
+        Ok(Request::Search(Search { form, picks: self.picks, patterns, log }))
     }
 }

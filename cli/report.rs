@@ -1,6 +1,6 @@
 //! What is printed of answers, refusals and logs.
 
-use crate::calls::{self, Count, Refusal, Stretch, LOG_MAX, PATTERN_MAX};
+use crate::calls::{self, Count, Refusal, Stretch, LOG_MAX, PATTERN_MAX, PICKS_MAX};
 use crate::input::{Log, Titled};
 use crate::options::Form;
 use crate::paint::{Paint, BOLD, CYAN, RED, YELLOW};
@@ -20,6 +20,11 @@ pub fn refusal(refusal: Refusal, pattern: &[u8], log: &Log) -> String {
         Refusal::Misspelt { place } => format!("misspelt after {}", of(place, "byte", "bytes")),
         Refusal::Crowded => "crowded: more than 32 nodes".into(),
         Refusal::Deep => "deep: more than 8 deep".into(),
+        Refusal::BadCount { k: 0 } => "bad count: 0 picks, at least 1".into(),
+        Refusal::BadCount { k } => {
+            let more = if k == u32::MAX { " or more" } else { "" };
+            format!("bad count: {}{more}, {}", of(k as usize, "pick", "picks"), at_most(PICKS_MAX))
+        }
     };
     format!("refused: {why}")
 }
@@ -60,6 +65,28 @@ fn sound_without_return(line: &[u8]) -> bool {
     line.strip_suffix(b"\r\n").is_some_and(|text| calls::sound(&[text, b"\n"].concat()))
 }
 
+/// What is found of a pattern: all stretches, or picks of them.
+pub struct Found {
+    pub listed: Vec<Stretch>,
+    pub picked: Option<Picked>,
+}
+
+/// How many picks were asked for, and of how many stretches.
+pub struct Picked {
+    pub k: u32,
+    pub stretches: usize,
+}
+
+impl Found {
+    fn in_words(&self) -> String {
+        let listed = self.listed.len();
+        match self.picked {
+            None => stretches(listed),
+            Some(Picked { k, stretches: all }) => format!("{}, {listed} of {}", stretches(all), of(k as usize, "pick", "picks")),
+        }
+    }
+}
+
 /// Prints answers over one log.
 pub struct Report<'a> {
     pub log: &'a [u8],
@@ -71,13 +98,13 @@ pub struct Report<'a> {
 
 impl Report<'_> {
     /// The answer to the only pattern.
-    pub fn answer(&mut self, found: &[Stretch]) -> Result<(), Fault> {
+    pub fn answer(&mut self, found: &Found) -> Result<(), Fault> {
         if self.form == Form::Count {
-            return Ok(writeln!(self.out, "{}", found.len())?);
+            return Ok(writeln!(self.out, "{}", found.listed.len())?);
         }
-        let first = format!("{}; {}", self.log_in_words(), stretches(found.len()));
+        let first = format!("{}; {}", self.log_in_words(), found.in_words());
         writeln!(self.out, "{} (lines count from 0)", self.paint.paint(BOLD, &first))?;
-        self.list(found)
+        self.list(&found.listed)
     }
 
     /// The first line of answers to several patterns.
@@ -96,12 +123,12 @@ impl Report<'_> {
         Ok(writeln!(self.out, "{}", safe(&titled.pattern))?)
     }
 
-    pub fn answer_titled(&mut self, found: &[Stretch]) -> Result<(), Fault> {
-        writeln!(self.out, "{}", stretches(found.len()))?;
+    pub fn answer_titled(&mut self, found: &Found) -> Result<(), Fault> {
+        writeln!(self.out, "{}", found.in_words())?;
         if self.form == Form::Count {
             Ok(())
         } else {
-            self.list(found)
+            self.list(&found.listed)
         }
     }
 
@@ -110,8 +137,8 @@ impl Report<'_> {
         format!("{}, {} damaged{unended}", lines(self.count.lines), grouped(self.count.damaged as u64))
     }
 
-    fn list(&mut self, found: &[Stretch]) -> Result<(), Fault> {
-        for &stretch in found {
+    fn list(&mut self, listed: &[Stretch]) -> Result<(), Fault> {
+        for &stretch in listed {
             let ends = self.paint.paint(CYAN, &format!("{}..{}", stretch.first, stretch.last));
             writeln!(self.out, "{ends} ({})", lines(stretch.lines()))?;
             if self.form == Form::Show {

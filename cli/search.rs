@@ -5,7 +5,7 @@ use crate::input::{read_log, read_patterns, Log, Source, Titled};
 use crate::options::{Form, Patterns, Search};
 use crate::paint::Paint;
 use crate::progress::Progress;
-use crate::report::{refusal, refusal_pointed, warning, Report};
+use crate::report::{refusal, refusal_pointed, warning, Found, Picked, Report};
 use crate::text::grouped;
 use crate::{say, sheet, tell, Fault, FAILED, FOUND, NOTHING};
 use std::io::{self, IsTerminal, Write};
@@ -15,12 +15,12 @@ pub fn run(search: &Search) -> Result<u8, Fault> {
         Patterns::Given(pattern) if search.form == Form::Sheet => printed_sheet(pattern, &read_log(&search.log)?),
         Patterns::Given(pattern) => {
             let log = read_log(&search.log)?;
-            counted(&log, |count| one(pattern, &log, count, search.form))
+            counted(&log, |count| one(pattern, &log, count, search))
         }
         Patterns::From(source) => {
             let patterns = read_patterns(source)?;
             let log = read_log(&search.log)?;
-            counted(&log, |count| several(&patterns, source, &log, count, search.form))
+            counted(&log, |count| several(&patterns, source, &log, count, search))
         }
     }
 }
@@ -47,6 +47,16 @@ fn refused(reason: Refusal, pattern: &[u8], log: &Log) -> Result<u8, Fault> {
     Ok(FAILED)
 }
 
+/// All stretches of a pattern in a log of so many lines, or so many picks of them.
+fn find(pattern: &[u8], log: &[u8], lines: usize, picks: Option<u32>) -> Result<Found, Unanswered> {
+    let Some(k) = picks else {
+        return Ok(Found { listed: calls::stretches(pattern, log, lines)?, picked: None });
+    };
+    let listed = calls::picks(pattern, log, lines, k)?;
+    let stretches = calls::stretches(pattern, log, lines)?.len();
+    Ok(Found { listed, picked: Some(Picked { k, stretches }) })
+}
+
 fn status(found: usize) -> u8 {
     if found > 0 {
         FOUND
@@ -68,19 +78,19 @@ fn report(log: &[u8], count: Count, form: Form) -> Result<Report<'_>, Fault> {
     Ok(Report { log, count, form, paint: Paint::for_stream(&io::stdout()), out })
 }
 
-fn one(pattern: &[u8], log: &Log, count: Count, form: Form) -> Result<u8, Fault> {
-    let found = match judged(calls::stretches(pattern, &log.bytes, count.lines))? {
+fn one(pattern: &[u8], log: &Log, count: Count, search: &Search) -> Result<u8, Fault> {
+    let found = match judged(find(pattern, &log.bytes, count.lines, search.picks))? {
         Ok(found) => found,
         Err(reason) => return refused(reason, pattern, log),
     };
-    let mut report = report(&log.bytes, count, form)?;
+    let mut report = report(&log.bytes, count, search.form)?;
     report.answer(&found)?;
     report.out.flush()?;
-    Ok(status(found.len()))
+    Ok(status(found.listed.len()))
 }
 
-fn several(patterns: &[Titled], source: &Source, log: &Log, count: Count, form: Form) -> Result<u8, Fault> {
-    let mut report = report(&log.bytes, count, form)?;
+fn several(patterns: &[Titled], source: &Source, log: &Log, count: Count, search: &Search) -> Result<u8, Fault> {
+    let mut report = report(&log.bytes, count, search.form)?;
     let all = grouped(patterns.len() as u64);
     let progress = Progress::start(!io::stdout().is_terminal(), move |done| format!("searching: {} of {all} patterns done", grouped(done)));
     let mut statuses = Vec::new();
@@ -91,10 +101,10 @@ fn several(patterns: &[Titled], source: &Source, log: &Log, count: Count, form: 
             writeln!(report.out)?;
         }
         report.title(titled)?;
-        statuses.push(match judged(calls::stretches(&titled.pattern, &log.bytes, report.count.lines))? {
+        statuses.push(match judged(find(&titled.pattern, &log.bytes, report.count.lines, search.picks))? {
             Ok(found) => {
                 report.answer_titled(&found)?;
-                status(found.len())
+                status(found.listed.len())
             }
             Err(reason) => {
                 writeln!(report.out, "{}", refusal(reason, &titled.pattern, log))?;

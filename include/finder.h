@@ -12,16 +12,17 @@
 
    Cost: the time of a call over a log grows with the log's length and no faster. For an evening of 3,000 lines finder_fill takes tens of
    microseconds, with the worst patterns some hundreds; finder_count takes some 20, finder_lines up to some 35 for the last lines and
-   less for earlier ones. */
+   less for earlier ones. finder_pick reads the log once, as finder_fill does, and searches it at most k times:
+   some hundreds of microseconds for 16 picks, with the worst patterns some 10 milliseconds. */
 #ifndef FINDER_H
 #define FINDER_H
 
 #include <stddef.h>
 #include <stdint.h>
 
-#define FINDER_VERSION "1.0.0"
+#define FINDER_VERSION "1.1.0"
 #define FINDER_VERSION_MAJOR 1
-#define FINDER_VERSION_MINOR 0
+#define FINDER_VERSION_MINOR 1
 #define FINDER_VERSION_PATCH 0
 
 #ifdef __cplusplus
@@ -34,13 +35,15 @@ enum {
     FINDER_PATTERN_MAX = 1024,   /* bytes of a pattern */
     FINDER_NODES_MAX = 32,       /* nodes of a pattern */
     FINDER_DEPTH_MAX = 8,        /* nodes from a pattern's outermost to its innermost */
+    FINDER_PICKS_MAX = 16,       /* picks of a call, k of finder_pick */
     FINDER_LISTS_MAX = 31,       /* lists of a call over lists */
     FINDER_POSITION_MAX = 65535, /* a start or an end in a list */
     FINDER_BOUND_MAX = 65535     /* k of max */
 };
 
-/* The stack that is enough for a call, in bytes. Measured, finder_fill takes some 260,000, whatever the log, finder_count 7,600,
-   finder_lists_fill 2,600, the other two less than 600; in a program's first call the dynamic linker takes up to 3,300 more. */
+/* The stack that is enough for a call, in bytes: FINDER_STACK_FILL for finder_fill and finder_pick, FINDER_STACK_OTHERS for every other.
+   Measured, these two take some 260,000, whatever the log, finder_count 7,600, finder_lists_fill 2,600, finder_lines and
+   finder_lists_take less than 600; in a program's first call the dynamic linker takes up to 3,300 more. */
 enum { FINDER_STACK_FILL = 320 * 1024, FINDER_STACK_OTHERS = 16 * 1024 };
 
 /* Why a call was refused: the lowest number that applies. A refused call writes nothing, and its result holds this number and, for
@@ -56,7 +59,8 @@ enum {
     FINDER_MISCUT = 7,       /* an end place odd, below the one before, or the last not item_count */
     FINDER_DISORDERED = 8,   /* a start above its end, a position above FINDER_POSITION_MAX, or a start or end not above the one before
                                 it in its list */
-    FINDER_FLOOD = 9         /* more answers than lines, which never happens */
+    FINDER_FLOOD = 9,        /* more answers than lines, which never happens */
+    FINDER_BAD_COUNT = 10    /* k of finder_pick not 1 to FINDER_PICKS_MAX */
 };
 
 /* Operators over lists. */
@@ -71,6 +75,15 @@ enum { FINDER_OR = 1, FINDER_AND = 2, FINDER_ROW = 3, FINDER_THEN = 4, FINDER_LE
    stretches written. */
 uint64_t finder_fill(const uint8_t *pattern, size_t pattern_len, const uint8_t *log, size_t log_len,
                      uint32_t *cells, size_t cell_count, uint64_t from);
+
+/* Up to k picks of a pattern in a log, k from 1 to FINDER_PICKS_MAX: of the answers the shortest, of equal lengths the one that starts first;
+   then the same of those that share no line with it, and so on. Writes them into cells in the order of picking, start line then end line,
+   as many as whole pairs fit; later cells keep their contents. Two cells for each of the k picks are enough. Fewer than k are written
+   exactly if, before the k-th, no answer is left that shares no line with those picked, or no whole pair of cells.
+
+   Result as for finder_fill, the picks as the stretches written; bit 8 is always 0. */
+uint64_t finder_pick(const uint8_t *pattern, size_t pattern_len, const uint8_t *log, size_t log_len, uint32_t k,
+                     uint32_t *cells, size_t cell_count);
 
 /* How many lines a log has, and how many of them are damaged.
 
@@ -99,7 +112,7 @@ uint64_t finder_lists_take(uint32_t op, const uint32_t *items, size_t item_count
 /* The refusal of every call but finder_lines. */
 static inline unsigned finder_refusal(uint64_t result) { return (unsigned)(result & 0xff); }
 
-/* The parts of a filling's result. */
+/* The parts of a filling's result, and of finder_pick's, which never has more. */
 static inline int finder_more(uint64_t result) { return (int)(result >> 8 & 1); }
 static inline unsigned finder_place(uint64_t result) { return (unsigned)(result >> 16 & 0xffff); }
 static inline uint32_t finder_written(uint64_t result) { return (uint32_t)(result >> 32); }
@@ -131,6 +144,7 @@ static inline const char *finder_refusal_text(unsigned refusal)
     case FINDER_MISCUT: return "miscut";
     case FINDER_DISORDERED: return "disordered";
     case FINDER_FLOOD: return "flood";
+    case FINDER_BAD_COUNT: return "bad count";
     default: return "unknown refusal";
     }
 }
