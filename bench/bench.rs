@@ -1,5 +1,5 @@
-//! Times the finder's filling call beside the plain Rust evaluator of the tests, and the steps beside the filling call: same machine, same inputs, all
-//! built for release, calls in turn. It measures and passes no judgement; only a difference between the two results stops it.
+//! Times the finder's filling and picking calls beside the plain Rust evaluator of the tests, and the steps beside the filling call: same machine, same
+//! inputs, all built for release, calls in turn. It measures and passes no judgement; only a difference between the two results stops it.
 
 #[path = "../tests/outside/calls.rs"]
 mod calls;
@@ -73,6 +73,23 @@ fn over_logs(name: &str, pattern: &str, logs: &[Vec<u8>], pairs: usize) {
 
 fn row(name: &str, pattern: &str, log: &[u8], pairs: usize) {
     over_logs(name, pattern, &[log.to_vec()], pairs);
+}
+
+/// One row: so many picks of a pattern's answers in a log.
+fn pick_row(name: &str, pattern: &str, log: &[u8], k: u32) {
+    let (pattern, mut of_finder, mut of_plain) = (pattern.as_bytes(), vec![0; 2 * k as usize], vec![0; 2 * k as usize]);
+    let given = calls::Archive.pick(pattern, log, k, &mut of_finder);
+    let due = reference::pick(&quick::answers(pattern, log), k, &mut of_plain, quick::picks);
+    assert!(given == due && of_finder == of_plain, "{name}: the results differ: {given:#x} and {due:#x}");
+    let times = side_by_side(
+        || {
+            black_box(calls::Archive.pick(black_box(pattern), black_box(log), k, &mut of_finder));
+        },
+        || {
+            black_box(reference::pick(&quick::answers(black_box(pattern), black_box(log)), k, &mut of_plain, quick::picks));
+        },
+    );
+    print_row(name, log.len(), (given >> 32) as usize, times);
 }
 
 /// One row: the answers of a pattern in a log taken one by one beside the filling of all of them.
@@ -162,6 +179,21 @@ fn main() {
     row("full log of line feeds", SIX, &vec![b'\n'; reference::LOG_MAX], 1);
     for part in [32, 16, 8, 4, 2, 1] {
         row(&format!("six operators, 1/{part} of a full log"), SIX, &full[..reference::LOG_MAX / part], 6_000);
+    }
+    println!();
+    println!("Picks, found being their number.");
+    println!(
+        "{:<36} {:>6} {:>6} {:>10} {:>10} {:>7} {:>9} {:>9}",
+        "", "bytes", "found", "finder us", "plain us", "ratio", "ns/byte", "ns/byte"
+    );
+    let every: Vec<u8> = b"1,4,1,3,6\n".repeat(reference::LOG_MAX / 10);
+    pick_row("3,000 lines, six operators, 16", SIX, &evening, 16);
+    pick_row("3,000 lines, most match, 16", "ev,2,0", &evening, 16);
+    pick_row("3,000 lines, and of 2 leaves, 16", "and,2,ev,2,0,ev,3,0", &evening, 16);
+    pick_row("dense, and of 31 leaves, 16", &dense_leaves("and"), &dense[0], 16);
+    pick_row("full log, every line matches, 16", "ev,1,0", &every, 16);
+    for k in [1, 4, 16] {
+        pick_row(&format!("full log, rows of two lines, {k}"), "row,2,ev,1,0,ev,1,0", &every, k);
     }
     println!();
     println!("The same answers one by one, the last step saying none, beside the filling.");

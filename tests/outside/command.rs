@@ -1,5 +1,5 @@
-//! Compares what find-stretches prints with the reference's answers and lines: `command PROGRAM`, each pattern as an argument, each log through
-//! standard input.
+//! Compares what find-stretches prints with the reference's answers, picks and lines: `command PROGRAM`, each pattern as an argument, each log
+//! through standard input.
 
 mod inputs;
 mod piped;
@@ -12,12 +12,16 @@ use std::ffi::OsStr;
 use std::os::unix::ffi::OsStrExt;
 use std::process::Command;
 
+const PICKS_MAX: usize = reference::PICKS_MAX as usize;
+
 /// Status, standard output, and the first line of standard error.
 #[derive(PartialEq)]
 struct Printed(Option<i32>, String, String);
 
-fn printed(program: &str, pattern: &[u8], log: &[u8]) -> std::io::Result<Printed> {
-    let output = piped::output(Command::new(program).args(["--show", "--"]).arg(OsStr::from_bytes(pattern)), log)?;
+fn printed(program: &str, pattern: &[u8], log: &[u8], k: Option<usize>) -> std::io::Result<Printed> {
+    let mut command = Command::new(program);
+    command.args(k.map(|k| format!("--pick={k}"))).args(["--show", "--"]).arg(OsStr::from_bytes(pattern));
+    let output = piped::output(&mut command, log)?;
     let text = |bytes: &[u8]| String::from_utf8_lossy(bytes).into_owned();
     let said = text(&output.stderr).lines().next().unwrap_or_default().into();
     Ok(Printed(output.status.code(), text(&output.stdout), said))
@@ -36,7 +40,7 @@ fn of(n: usize, one: &str, several: &str) -> String {
     format!("{} {}", grouped(n), if n == 1 { one } else { several })
 }
 
-fn refused(refusal: Refusal, pattern: &[u8], log: &[u8]) -> Printed {
+fn refused(refusal: Refusal, pattern: &[u8], log: &[u8], k: Option<usize>) -> Printed {
     let said = match refusal.number {
         1 => format!("long log: {} bytes, at most 61,440", grouped(log.len())),
         2 => format!("long pattern: {} bytes, at most 1,024", grouped(pattern.len())),
@@ -45,7 +49,11 @@ fn refused(refusal: Refusal, pattern: &[u8], log: &[u8]) -> Printed {
             format!("misspelt{early} after {}", of(refusal.place as usize, "byte", "bytes"))
         }
         4 => "crowded: more than 32 nodes".into(),
-        _ => "deep: more than 8 deep".into(),
+        5 => "deep: more than 8 deep".into(),
+        _ => match k {
+            Some(0) => "bad count: 0 picks, at least 1".into(),
+            _ => format!("bad count: {} picks, at most 16", grouped(k.unwrap_or_default())),
+        },
     };
     Printed(Some(2), String::new(), format!("refused: {said}"))
 }
@@ -65,13 +73,21 @@ fn shown(line: &[u8]) -> String {
     }
 }
 
-fn found(list: &List, log: &[u8]) -> Printed {
+fn found(list: &List, log: &[u8], k: Option<usize>) -> Printed {
     let lines = reference::lines(log);
     let damaged = lines.iter().filter(|line| reference::record(line).is_none()).count();
     let (all, answers) = (of(lines.len(), "line", "lines"), of(list.len(), "stretch", "stretches"));
+    let (listed, picked) = match k {
+        None => (list.clone(), String::new()),
+        Some(k) => {
+            let picks = reference::picks(k, list);
+            let picked = format!(", {} of {}", picks.len(), of(k, "pick", "picks"));
+            (picks, picked)
+        }
+    };
     let unended = lines.last().filter(|line| !line.ends_with(b"\n")).map_or("", |_| " (the last line has no line feed)");
-    let mut text = format!("{all}, {} damaged{unended}; {answers} (lines count from 0)\n", grouped(damaged));
-    for stretch in list {
+    let mut text = format!("{all}, {} damaged{unended}; {answers}{picked} (lines count from 0)\n", grouped(damaged));
+    for stretch in &listed {
         text += &format!("{}..{} ({})\n", stretch.s, stretch.e, of((stretch.e - stretch.s + 1) as usize, "line", "lines"));
         for number in stretch.s..=stretch.e {
             text += &format!("{number:8}  {}\n", shown(lines[number as usize]));
@@ -97,21 +113,32 @@ fn random(rng: &mut Rng) -> (Vec<u8>, Vec<u8>) {
     (pattern, log)
 }
 
+/// How many picks to ask for, if any; also around the bounds.
+fn random_picks(rng: &mut Rng) -> Option<usize> {
+    match rng.below(12) {
+        0 => Some(rng.pick(&[0, PICKS_MAX + 1, 65_537])),
+        1..=5 => Some(1 + rng.below(PICKS_MAX)),
+        _ => None,
+    }
+}
+
 fn main() {
     let program = std::env::args().nth(1).expect("usage: command PROGRAM");
     let mut rng = Rng(47);
     let rounds = 600;
     for round in 0..rounds {
         let (pattern, log) = random(&mut rng);
+        let k = random_picks(&mut rng);
         let due = match quick::answers(&pattern, &log) {
-            Ok(list) => found(&list, &log),
-            Err(refusal) => refused(refusal, &pattern, &log),
+            Ok(_) if k.is_some_and(|k| !(1..=PICKS_MAX).contains(&k)) => refused(Refusal { number: 10, place: 0 }, &pattern, &log, k),
+            Ok(list) => found(&list, &log, k),
+            Err(refusal) => refused(refusal, &pattern, &log, k),
         };
-        let given = printed(&program, &pattern, &log).unwrap_or_else(|e| Printed(None, String::new(), e.to_string()));
+        let given = printed(&program, &pattern, &log, k).unwrap_or_else(|e| Printed(None, String::new(), e.to_string()));
         // A hint on carriage returns may follow the warning.
         let hinted = Printed(given.0, given.1.clone(), given.2.split(';').next().unwrap_or_default().into());
         if due != hinted {
-            println!("command: DIFFERENCE in round {round}, pattern \"{}\", log of {} bytes", pattern.escape_ascii(), log.len());
+            println!("command: DIFFERENCE in round {round}, pattern \"{}\", log of {} bytes, picks {k:?}", pattern.escape_ascii(), log.len());
             println!("ended with {:?}, said {:?}, printed:\n{}", given.0, given.2, given.1);
             println!("should end with {:?}, say {:?}, print:\n{}", due.0, due.2, due.1);
             std::process::exit(1);

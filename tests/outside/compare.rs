@@ -3,7 +3,7 @@
 use crate::calls::Calls;
 use crate::inputs::Rng;
 use crate::lent::{self, Taken};
-use crate::reference::{self, List, Refusal, Stretch};
+use crate::reference::{self, List, Picks, Refusal, Stretch};
 
 /// Nothing, or the report of a difference.
 pub type Checked = Result<(), String>;
@@ -17,9 +17,11 @@ pub fn show(text: &[u8]) -> String {
 /// Cells on both sides of the lent ones.
 const GUARD: usize = 3;
 
-/// Runs `call` and `model` on equal cells with random contents; the results and all cells must agree.
+/// Runs `call` and `model` on equal cells with random contents, in half of the cases as small as lines' numbers; the results and all cells
+/// must agree.
 fn same(rng: &mut Rng, cells: usize, call: impl Fn(&mut [u32]) -> u64, model: impl Fn(&mut [u32]) -> u64) -> Checked {
-    let before: Vec<u32> = (0..cells + 2 * GUARD).map(|_| rng.next() as u32).collect();
+    let most = rng.pick(&[u32::MAX, 63]);
+    let before: Vec<u32> = (0..cells + 2 * GUARD).map(|_| rng.next() as u32 & most).collect();
     let (mut got, mut wanted) = (before.clone(), before);
     let given = call(&mut got[GUARD..GUARD + cells]);
     let due = model(&mut wanted[GUARD..GUARD + cells]);
@@ -52,6 +54,21 @@ pub fn steps(calls: &dyn Calls, rng: &mut Rng, pattern: &[u8], log: &[u8], answe
     let call = |lent: &mut [u32]| calls.steps(pattern, log, lent);
     let report = |what| format!("one by one: {what}\n  pattern {}\n  log {}\n  cells {cells}", show(pattern), show(log));
     same(rng, cells, call, |lent| reference::steps(answers, lent)).map_err(report)
+}
+
+/// The picking call; `by` gives the picks.
+pub fn pick(
+    calls: &dyn Calls,
+    rng: &mut Rng,
+    pattern: &[u8],
+    log: &[u8],
+    answers: &Result<List, Refusal>,
+    (k, cells): (u32, usize),
+    by: Picks,
+) -> Checked {
+    let call = |lent: &mut [u32]| calls.pick(pattern, log, k, lent);
+    let report = |what| format!("picks: {what}\n  pattern {}\n  log {}\n  k {k}, cells {cells}", show(pattern), show(log));
+    same(rng, cells, call, |lent| reference::pick(answers, k, lent, by)).map_err(report)
 }
 
 /// Lists as they are lent to a call, with operator and k.
@@ -136,10 +153,22 @@ impl<'a> Search<'a> {
         self.answers.as_ref().map_or(0, List::len)
     }
 
+    /// The number of picks, however many are asked for.
+    pub fn picked(&self) -> usize {
+        self.answers.as_ref().map_or(0, |answers| reference::picks(reference::PICKS_MAX as usize, answers).len())
+    }
+
     /// Compares the filling call; a difference is reported for a shorter log if one shows it too.
     pub fn fill(&self, rng: &mut Rng, cells: usize, from: u64) -> Checked {
         let differs = |log: &[u8]| fill(self.calls, &mut Rng(0), self.pattern, log, &(self.by)(self.pattern, log), cells, from);
         let compared = fill(self.calls, rng, self.pattern, self.log, &self.answers, cells, from);
+        compared.map_err(|report| shorten(self.log, differs).err().unwrap_or(report))
+    }
+
+    /// Compares the picking call with the picks that `by` gives.
+    pub fn pick(&self, rng: &mut Rng, case: (u32, usize), by: Picks) -> Checked {
+        let differs = |log: &[u8]| pick(self.calls, &mut Rng(0), self.pattern, log, &(self.by)(self.pattern, log), case, by);
+        let compared = pick(self.calls, rng, self.pattern, self.log, &self.answers, case, by);
         compared.map_err(|report| shorten(self.log, differs).err().unwrap_or(report))
     }
 
@@ -149,6 +178,29 @@ impl<'a> Search<'a> {
         let compared = steps(self.calls, rng, self.pattern, self.log, &self.answers, cells);
         compared.map_err(|report| shorten(self.log, differs).err().unwrap_or(report))
     }
+}
+
+/// The picks of a call, of an accepted k, held to its own list: answers of which no two share a line, each the first in picking order of
+/// those that remain, and fewer than k only where none remains or no whole pair of cells is left.
+pub fn pick_laws(calls: &dyn Calls, pattern: &[u8], log: &[u8], (k, cells): (u32, usize)) -> Checked {
+    let mut lent = vec![0; cells];
+    let result = calls.pick(pattern, log, k, &mut lent);
+    let law = |holds: bool, broken: &str| {
+        let report = || format!("{broken}: result {result:#x}\n  pattern {}\n  log {}\n  k {k}, cells {cells}", show(pattern), show(log));
+        holds.then_some(()).ok_or_else(report)
+    };
+    let list = whole(calls, pattern, log);
+    law(list.is_ok(), "no list to pick from")?;
+    let (list, written) = (list.unwrap_or_default(), (result >> 32) as usize);
+    law(result & 0xffff_ffff == 0, "an accepted call says more than a number of picks")?;
+    law(written <= k as usize && written <= cells / 2, "more picks than asked for, or than cells hold")?;
+    let mut remaining = list;
+    for pick in lent.chunks_exact(2).take(written).map(|c| Stretch { s: c[0], e: c[1] }) {
+        law(remaining.contains(&pick), "a pick is no answer, or shares a line with an earlier one")?;
+        law(remaining.iter().all(|a| reference::pick_order(&pick) <= reference::pick_order(a)), "a pick is not the first that remains")?;
+        remaining.retain(|&a| !reference::share_line(a, pick));
+    }
+    law(written == k as usize || written == cells / 2 || remaining.is_empty(), "an answer remains that was not picked")
 }
 
 /// Leaves out parts of a log's lines as long as `differs` still reports; at most 200 tries.

@@ -1,6 +1,7 @@
 //! Wrong variants of the plain calls: each exchanges one part.
 
 use crate::lent::{self, Taken};
+use crate::pick_faults;
 use crate::plain::{Plain, RIGHT};
 use crate::quick;
 use crate::reference::{self as r, refused, Apply, List, Op, Record, Refusal, Stretch, Tree, LOG_MAX};
@@ -100,6 +101,7 @@ pub fn variants() -> Vec<(&'static str, Plain)> {
     all.extend(over_handing_back());
     all.extend(over_steps());
     all.extend(over_log_alone());
+    all.extend(pick_faults::variants());
     all
 }
 

@@ -49,6 +49,13 @@ static unsigned refusal_over(uint32_t op, uint32_t k, uint32_t lists, uint32_t p
     return finder_refusal(finder_lists_fill(op, k, items, 2 * lists, ends, lists, cells, 0, 0));
 }
 
+/* The result of so many picks, of three lines that all match. */
+static uint64_t picks(uint32_t k, uint32_t *cells, size_t cell_count)
+{
+    static const char log[] = "1,4,7,3,6\n2,4,7,20,3,0\n1,5,7,0,0\n";
+    return finder_pick((const uint8_t *)"ev,7,0", 6, (const uint8_t *)log, strlen(log), k, cells, cell_count);
+}
+
 static void limits(void)
 {
     CHECK(refusal("ev,1,0", FINDER_LOG_MAX) == FINDER_ACCEPTED && refusal("ev,1,0", FINDER_LOG_MAX + 1) == FINDER_LONG_LOG);
@@ -65,6 +72,12 @@ static void limits(void)
     CHECK(refusal_over(FINDER_OR, 0, FINDER_LISTS_MAX, FINDER_POSITION_MAX) == FINDER_ACCEPTED);
     CHECK(refusal_over(FINDER_OR, 0, FINDER_LISTS_MAX + 1, 0) == FINDER_MISCALLED);
     CHECK(refusal_over(FINDER_OR, 0, 2, FINDER_POSITION_MAX + 1) == FINDER_DISORDERED);
+
+    uint32_t cells[6] = {9, 9, 9, 9, 9, 9};
+    CHECK(finder_refusal(picks(0, cells, 6)) == FINDER_BAD_COUNT && finder_refusal(picks(FINDER_PICKS_MAX + 1, cells, 6)) == FINDER_BAD_COUNT && cells[0] == 9);
+    CHECK(finder_refusal(picks(1, cells, 0)) == FINDER_ACCEPTED && finder_refusal(picks(FINDER_PICKS_MAX, cells, 0)) == FINDER_ACCEPTED);
+    CHECK(finder_written(picks(2, cells, 6)) == 2 && cells[0] == 0 && cells[1] == 0 && cells[2] == 1 && cells[3] == 1 && cells[4] == 9);
+    CHECK(finder_written(picks(FINDER_PICKS_MAX, cells, 6)) == 3 && cells[4] == 2 && cells[5] == 2);
 }
 
 /* Two cells for each line are enough where every line is an answer, and fewer are not. */
@@ -81,9 +94,9 @@ static void cells_enough(void)
 static void words(void)
 {
     static const char *const expected[] = {"accepted", "long log", "long pattern", "misspelt", "crowded", "deep", "miscalled", "miscut",
-        "disordered", "flood", "unknown refusal", "unknown refusal"};
+        "disordered", "flood", "bad count", "unknown refusal", "unknown refusal"};
     char version[32];
-    for (unsigned i = 0; i < 12; i++)
+    for (unsigned i = 0; i < 13; i++)
         CHECK(strcmp(finder_refusal_text(i), expected[i]) == 0 && strcmp(unit_text(i), expected[i]) == 0);
     CHECK(strcmp(finder_refusal_text(0xffffffff), "unknown refusal") == 0);
     sprintf(version, "%d.%d.%d", FINDER_VERSION_MAJOR, FINDER_VERSION_MINOR, FINDER_VERSION_PATCH);

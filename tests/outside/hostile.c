@@ -26,7 +26,8 @@ static void *block(size_t n)
 }
 
 static const char *const patterns[] = {
-    "", "e", "ev,", "ev,1,0", "fr,10,99", "ev,256,0", "or,31,ev,1,0", "then,2,ev,7,0,ev,9,0", "row,3,fr,0,0,fr,1,0,fr,3,0",
+    "", "e", "ev,", "ev,1,0", "fr,10,99", "ev,256,0", "or,31,ev,1,0", "then,2,ev,7,0,ev,9,0", "and,2,ev,7,0,ev,9,0",
+    "row,3,fr,0,0,fr,1,0,fr,3,0",
     "less,and,2,ev,7,0,fr,3,0,max,2,or,2,ev,9,4,ev,12,0", "and,3,then,2,ev,7,0,ev,9,0,or,2,fr,0,4,fr,10,5,max,65535,fr,1,0",
     "max,9,max,9,max,9,max,9,max,9,max,9,max,9,ev,1,0", "max,9,max,9,max,9,max,9,max,9,max,9,max,9,max,9,ev,1,0",
     "and,2,less,row,2,ev,1,0,ev,7,0,ev,9,0,then,2,or,2,ev,12,1,fr,3,0,max,3,and,2,ev,1,4,ev,9,5", "or,18446744073709551616,ev,1,0"};
@@ -54,7 +55,7 @@ static uint8_t *text(const char *const *pieces, uint32_t count, size_t n)
 }
 
 /* Branches on every cell that a call says it wrote. */
-static unsigned sum, feeds;
+static unsigned sum, feeds, picked;
 
 static void use(const uint32_t *cells, size_t written)
 {
@@ -93,6 +94,30 @@ static void over_lines(const uint8_t *log, size_t log_len)
             feeds++;
 }
 
+/* The picking call: refused as the filling call was, or else by k alone; no two picks share a line. */
+static void over_picks(const uint8_t *pattern, size_t pattern_len, const uint8_t *log, size_t log_len, uint64_t filled)
+{
+    uint32_t k = below(4) == 0 ? edges[below(COUNT(edges))] : below(19);
+    int good = k >= 1 && k <= FINDER_PICKS_MAX;
+    size_t cell_count = below(40);
+    uint32_t *cells = block(cell_count * sizeof *cells);
+    uint64_t result = finder_pick(pattern, pattern_len, log, log_len, k, cells, cell_count);
+    size_t written = finder_written(result);
+    if (finder_refusal(filled) != FINDER_ACCEPTED)
+        must(result == filled, "picks are refused otherwise than stretches");
+    else if (!good)
+        must(result == FINDER_BAD_COUNT, "a bad number of picks is not refused as such");
+    else
+        must((result & 0xffffffff) == 0 && written <= k && written <= cell_count / 2, "more picks than asked for, or than cells hold");
+    use(cells, 2 * written);
+    for (size_t i = 0; i < written; i++)
+        for (size_t j = 0; j < i; j++) {
+            must(cells[2 * i + 1] < cells[2 * j] || cells[2 * j + 1] < cells[2 * i], "two picks share a line");
+            picked++;
+        }
+    free(cells);
+}
+
 static void over_log(void)
 {
     const char *pattern_text = patterns[below(COUNT(patterns))];
@@ -113,6 +138,7 @@ static void over_log(void)
     uint64_t from = below(8) == 0 ? UINT64_MAX - below(3) : below(4);
     uint64_t result = finder_fill(pattern, pattern_len, log, log_len, cells, cell_count, from);
     use(cells, 2 * (size_t)finder_written(result));
+    over_picks(pattern, pattern_len, log, log_len, result);
     over_lines(log, log_len);
     free(pattern);
     free(log);
@@ -161,10 +187,10 @@ int main(int argc, char **argv)
         over_log();
         over_lists();
     }
-    if (sum == 0 || feeds == 0) {
-        puts("hostile: no call wrote anything, or no part had a line feed, so nothing was tried");
+    if (sum == 0 || feeds == 0 || picked == 0) {
+        puts("hostile: no call wrote anything, no part had a line feed, or never were two picks made, so nothing was tried");
         return 1;
     }
-    printf("hostile: %d calls, no fault\n", 5 * rounds);
+    printf("hostile: %d calls, no fault\n", 6 * rounds);
     return 0;
 }

@@ -106,6 +106,23 @@ pub fn tree(rng: &mut Rng, nodes: usize, depth: usize) -> Tree {
     Tree::Op { op, k, operands }
 }
 
+/// A pattern whose answers overlap in most logs: `and` or `then` over few leaves, alone or below another operator.
+pub fn crossing(rng: &mut Rng) -> Tree {
+    let over = |op, k, operands| Tree::Op { op, k, operands };
+    let spans = |rng: &mut Rng| {
+        let (op, leaves) = (rng.pick(&[Op::And, Op::Then]), rng.range(2, 4));
+        over(op, 0, (0..leaves).map(|_| leaf(rng)).collect())
+    };
+    let first = spans(rng);
+    match rng.below(8) {
+        0 => over(Op::Max, rng.range(1, 12), vec![first]),
+        1 => over(Op::Less, 0, vec![first, leaf(rng)]),
+        2 => over(Op::Or, 0, vec![first, leaf(rng)]),
+        3 => over(rng.pick(&[Op::Or, Op::And, Op::Row, Op::Then]), 0, vec![first, spans(rng)]),
+        _ => first,
+    }
+}
+
 /// One small change to a text.
 pub fn spoil(rng: &mut Rng, text: &mut Vec<u8>) {
     let at = rng.below(text.len() + 1);
@@ -177,6 +194,17 @@ pub fn log(rng: &mut Rng, lines: usize, damage: usize) -> Vec<u8> {
     if rng.once_in(6) {
         log.pop();
     }
+    log
+}
+
+/// At most `most` bytes: sound lines far apart, with up to `gap` empty lines before each.
+pub fn sparse(rng: &mut Rng, gap: usize, most: usize) -> Vec<u8> {
+    let mut log = Vec::new();
+    while log.len() < most {
+        log.extend(vec![b'\n'; rng.below(gap + 1)]);
+        log.extend(line(rng).into_bytes());
+    }
+    log.truncate(most);
     log
 }
 

@@ -92,6 +92,13 @@ pub fn reference(t: &Trial) -> Outcome {
             count += 1;
         }
     }
+    for _ in 0..t.rounds(6_000) {
+        let list = inputs::list(&mut rng, 40, 90);
+        for k in 0..=17 {
+            agree("picks literal and quick", reference::picks(k, &list), quick::picks(k, &list), || format!("{k} of {list:?}"))?;
+            count += 1;
+        }
+    }
     for _ in 0..t.rounds(1_500) {
         let mut text = inputs::tree(&mut rng, 6, 4).spell().into_bytes();
         inputs::spoil(&mut rng, &mut text);

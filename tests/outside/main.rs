@@ -10,6 +10,8 @@ mod lent;
 mod log_alone;
 mod over_lists;
 mod over_logs;
+mod pick_faults;
+mod picking;
 mod plain;
 mod quick;
 mod reference;
@@ -33,7 +35,7 @@ pub type Outcome = Result<usize, String>;
 type Group = (&'static str, fn(&Trial) -> Outcome);
 
 /// Groups that try the calls on seeded inputs.
-const SEEDED: [Group; 12] = [
+const SEEDED: [Group; 16] = [
     ("patterns", over_logs::patterns),
     ("lines", over_logs::lines),
     ("logs", over_logs::logs),
@@ -46,10 +48,19 @@ const SEEDED: [Group; 12] = [
     ("lists", over_lists::lists),
     ("spoiled lists", over_lists::spoiled),
     ("taking", over_lists::taking),
+    ("picks", picking::picks),
+    ("refused picks", picking::refused),
+    ("long picks", picking::long),
+    ("laws of picks", picking::laws),
 ];
 
-const FIXED: [Group; 4] =
-    [("reference", itself::reference), ("worked cases", itself::cases), ("samples", over_logs::samples), ("log alone", log_alone::cases)];
+const FIXED: [Group; 5] = [
+    ("reference", itself::reference),
+    ("worked cases", itself::cases),
+    ("samples", over_logs::samples),
+    ("log alone", log_alone::cases),
+    ("worked picks", picking::cases),
+];
 
 /// Runs all groups on the archive; gives the number that failed.
 fn compare_archive() -> usize {
@@ -78,10 +89,16 @@ fn selftest() -> usize {
     let verbose = std::env::args().any(|arg| arg == "--verbose");
     let mut failed = Vec::new();
     failed.extend(SEEDED.iter().find_map(|group| report(&plain::RIGHT, group)));
+    // The group that caught the last one goes first: variants of one call stand together.
+    let mut groups: Vec<&Group> = SEEDED.iter().collect();
     for (fault, plain) in &variants {
-        match SEEDED.iter().find_map(|group| report(plain, group)) {
-            Some(report) if verbose => println!("{fault}: caught by {report}"),
-            Some(_) => {}
+        match groups.iter().enumerate().find_map(|(at, group)| report(plain, group).map(|report| (at, report))) {
+            Some((at, report)) => {
+                groups[..=at].rotate_right(1);
+                if verbose {
+                    println!("{fault}: caught by {report}");
+                }
+            }
             None => failed.push(format!("not caught: {fault}")),
         }
     }

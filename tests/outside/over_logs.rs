@@ -229,7 +229,8 @@ pub fn samples(t: &Trial) -> Outcome {
         }
         search.fill(&mut Rng(7), 2 * search.found() + 1, 0)?;
         search.steps(&mut Rng(7), 2 * search.found() + 1)?;
-        count += 2;
+        search.pick(&mut Rng(7), (16, 33), quick::picks)?;
+        count += 3;
     }
     Ok(count)
 }

@@ -16,6 +16,7 @@ pub struct Plain {
     pub take_and: fn(&[List], u64) -> Taken,
     pub fill: fn(&Result<List, Refusal>, &mut [u32], u64) -> u64,
     pub steps: fn(&Result<List, Refusal>, &mut [u32]) -> u64,
+    pub pick: fn(&Result<List, Refusal>, u32, &mut [u32]) -> u64,
     pub take: fn(&Result<Taken, Refusal>, &mut [u32]) -> u64,
     pub count: fn(&[u8]) -> u64,
     pub lines: fn(&[u8], u32, u32) -> u64,
@@ -32,6 +33,7 @@ pub const RIGHT: Plain = Plain {
     take_and: lent::take_and,
     fill: r::fill,
     steps: r::steps,
+    pick: |answers, k, cells| r::pick(answers, k, cells, quick::picks),
     take: lent::take,
     count: r::count,
     lines: |log, first, last| r::part_result(r::part(log, first, last)),
@@ -50,6 +52,10 @@ impl Calls for Plain {
 
     fn steps(&self, pattern: &[u8], log: &[u8], cells: &mut [u32]) -> u64 {
         (self.steps)(&self.answers(pattern, log), cells)
+    }
+
+    fn pick(&self, pattern: &[u8], log: &[u8], k: u32, cells: &mut [u32]) -> u64 {
+        (self.pick)(&self.answers(pattern, log), k, cells)
     }
 
     fn lists_fill(&self, op: u32, k: u32, items: &[u32], ends: &[u32], cells: &mut [u32], from: u64) -> u64 {

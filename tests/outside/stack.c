@@ -27,6 +27,13 @@ static int fill(void)
         == FINDER_ACCEPTED;
 }
 
+/* Every line is an answer. */
+static int pick(void)
+{
+    return finder_pick((const uint8_t *)pattern, sizeof pattern - 1, log_bytes, log_len, FINDER_PICKS_MAX, cells, 2 * FINDER_LOG_MAX)
+        == (uint64_t)(log_len / 10 < FINDER_PICKS_MAX ? log_len / 10 : FINDER_PICKS_MAX) << 32;
+}
+
 static int count(void) { return finder_counted_lines(finder_count(log_bytes, log_len)) == log_len / 10; }
 
 static int lines(void) { return finder_part_length(finder_lines(log_bytes, log_len, 1, (uint32_t)(log_len / 10 - 1))) == log_len - 10; }
@@ -103,10 +110,12 @@ int main(void)
         ends[i] = (uint32_t)(2 * i + 2);
     }
     bad |= measure("finder_fill, a full log,", fill, FINDER_STACK_FILL);
+    bad |= measure("finder_pick, a full log,", pick, FINDER_STACK_FILL);
     bad |= measure("finder_count", count, FINDER_STACK_OTHERS);
     bad |= measure("finder_lines", lines, FINDER_STACK_OTHERS);
     log_len = 30;
     bad |= measure("finder_fill, three lines,", fill, FINDER_STACK_FILL);
+    bad |= measure("finder_pick, three lines,", pick, FINDER_STACK_FILL);
     bad |= measure("finder_lists_fill", lists_fill, FINDER_STACK_OTHERS);
     bad |= measure("finder_lists_take", lists_take, FINDER_STACK_OTHERS);
     return bad;
