@@ -12,8 +12,8 @@
 
    Cost: the time of a call over a log grows with the log's length and no faster. For an evening of 3,000 lines finder_fill takes tens of
    microseconds, with the worst patterns some hundreds; finder_count takes some 20, finder_lines up to some 35 for the last lines and
-   less for earlier ones. finder_pick reads the log once, as finder_fill does, and searches it at most k times:
-   some hundreds of microseconds for 16 picks, with the worst patterns some 10 milliseconds. */
+   less for earlier ones. finder_pick reads the log once, as finder_fill does, and searches it at most k times: 16 picks of such an evening
+   take some hundreds of microseconds, with the worst patterns some 10 milliseconds. */
 #ifndef FINDER_H
 #define FINDER_H
 

@@ -22,6 +22,7 @@ use Rattle.meaning.specs.Refusals.{accepted, longLog, refusal}
 use Rattle.meaning.specs.Finding.{listOf, filling}
 use Rattle.meaning.specs.declared.Filled.{Filled}
 use Rattle.meaning.proofs.Run.{says-few}
+use Rattle.meaning.proofs.Table.{table-in}
 use Rattle.meaning.proofs.Finding.{good-pattern, refused-list, accepted-number}
 use Rattle.acceptance.specs.declared.Readied.{Readied}
 use Rattle.acceptance.specs.Readied.{rowsIn, readied}
@@ -39,12 +40,12 @@ use Rattle.finder.specs.Promises.{listIn, among, waits, handed, none, of
 
 -- every table's list is fine
 pub fine-in : (rows log : List ℕ) → Fine 65536 (listIn rows log)
-unfolding listIn tableIn
+unfolding listIn
 fine-in rows log = cases (longLog log) (λ b. Fine 65536 (cond b [] (tableIn rows log))) (λ e. fine-none 65536)
-    (λ e. fine-list (overTable rows (says log)) rows 65536 (λ v h.
+    (λ e. subst (Fine 65536) (sym (table-in rows log)) (fine-list (overTable rows (says log)) rows 65536 (λ v h.
     let hit = hits (kindAt rows v) (firstAt rows v) (secondAt rows v) in
     let f = fine-marks (map hit (says log)) in
-    record { rising = f .rising; sound = f .sound; below = λ s x m. omega (arith, f .below s x m, length-map (says log) hit, says-few log, ltb-false 61440 (length log) e) }) 0 (omega arith))
+    record { rising = f .rising; sound = f .sound; below = λ s x m. omega (arith, f .below s x m, length-map (says log) hit, says-few log, ltb-false 61440 (length log) e) }) 0 (omega arith)))
 
 -- the list of an accepted pattern's table is the pattern's
 pub list-in : (text log : List ℕ) → refusal text log .number ≡ 0 → listIn (rowsIn text log) log ≡ listOf text log

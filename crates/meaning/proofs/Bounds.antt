@@ -1,7 +1,7 @@
 -- How large the numbers of a call's result can be. Assumes nothing.
 use Prim.Native.Nat.{ℕ, _≤_}
 use mathlib.Core.Path.{_≡_, refl, ap}
-use mathlib.Core.Bool.{Bool, true, false, cond}
+use mathlib.Core.Bool.{Bool, true, false}
 use mathlib.Core.List.{List}
 use lib.ListN.{length, drop, length-take, length-drop}
 use lib.Dec.{ltb, eqb}
@@ -20,7 +20,7 @@ use Rattle.stretches.specs.Filling.{pairsIn, written}
 use Rattle.meaning.specs.Finding.{listOf}
 use Rattle.meaning.proofs.Tree.{few-answers}
 use Rattle.meaning.proofs.Run.{says-few}
-use Rattle.meaning.proofs.Finding.{long-log, bad-pattern, good-pattern, refused-list, accepted-list}
+use Rattle.meaning.proofs.Finding.{long-log, bad-pattern, good-pattern, refused-list, accepted-list, pick-as, pick-count}
 
 -- a refusal's number and place
 pub record Small (r : Refusal) : Type 0 where
@@ -71,15 +71,13 @@ module _ (pattern log : List ℕ) where
   few-written f cells = omega (arith, length-take (pairsIn cells) (drop f (listOf pattern log)), length-drop f (listOf pattern log), sized .list)
 
 -- of a picking call
-module _ (pattern log : List ℕ) (k : ℕ) where
-  abbrev which : Bool → Bool → Refusal
-  which a b = cond a (cond b (refused 10 0) accepted) (refusal pattern log)
+pub pick-small : (pattern log : List ℕ) (k : ℕ) → (pickRefusal pattern log k .number ≤ 10) × (pickRefusal pattern log k .place ≤ 1024)
+pick-small pattern log k = go (eqb (refusal pattern log .number) 0) (badCount k) refl refl
+  where
+    by : (r : Refusal) → pickRefusal pattern log k ≡ r → (r .number ≤ 10) × (r .place ≤ 1024) → (pickRefusal pattern log k .number ≤ 10) × (pickRefusal pattern log k .place ≤ 1024)
+    by r e h = (omega (arith, ap (λ (x : Refusal). x .number) e, h .0), omega (arith, ap (λ (x : Refusal). x .place) e, h .1))
 
-  pub pick-small : (pickRefusal pattern log k .number ≤ 10) × (pickRefusal pattern log k .place ≤ 1024)
-  unfolding pickRefusal
-  pick-small = go (eqb (refusal pattern log .number) 0) (badCount k)
-    where
-      go : (a b : Bool) → (which a b .number ≤ 10) × (which a b .place ≤ 1024)
-      go true true = (omega arith, omega arith)
-      go true false = (omega arith, omega arith)
-      go false b = let s = sized pattern log .refusal in (omega (arith, s .number), s .place)
+    go : (a b : Bool) → eqb (refusal pattern log .number) 0 ≡ a → badCount k ≡ b → (pickRefusal pattern log k .number ≤ 10) × (pickRefusal pattern log k .place ≤ 1024)
+    go true true i j = by (refused 10 0) (pick-count pattern log k true i j) (omega arith, omega arith)
+    go true false i j = by accepted (pick-count pattern log k false i j) (omega arith, omega arith)
+    go false b i j = let s = sized pattern log .refusal in by (refusal pattern log) (pick-as pattern log k i) (omega (arith, s .number), s .place)

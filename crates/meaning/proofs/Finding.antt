@@ -93,22 +93,26 @@ module _ (pattern a run b : List ℕ) (e : refusal pattern (a ++ (run ++ b)) ≡
       ap (inRun (length (lines a)) (length (lines run))) (accepted-list pattern (a ++ (run ++ b)) (k .tree) (k .brief) (k .reads))
       ∙ (run-bytes (k .tree) a run b wa wr ∙ sym (accepted-list pattern run (k .tree) (j .brief) (k .reads)))
 
--- the picking call is accepted exactly where pattern and log are, and k is 1 to 16
+-- the picking call is refused as pattern and log are, and then by its count
 module _ (pattern log : List ℕ) (k : ℕ) where
-  abbrev which : Bool → Bool → Refusal
-  which a b = cond a (cond b (refused 10 0) accepted) (refusal pattern log)
-
-  pub pick-accepted : pickRefusal pattern log k .number ≡ 0 → (refusal pattern log .number ≡ 0) × (1 ≤ k) × (k ≤ 16)
+  pub pick-as : eqb (refusal pattern log .number) 0 ≡ false → pickRefusal pattern log k ≡ refusal pattern log
   unfolding pickRefusal
-  pick-accepted e = go (eqb (refusal pattern log .number) 0) (badCount k) refl refl e
+  pick-as e = ap (λ b. cond b (cond (badCount k) (refused 10 0) accepted) (refusal pattern log)) e
+
+  pub pick-count : (b : Bool) → eqb (refusal pattern log .number) 0 ≡ true → badCount k ≡ b → pickRefusal pattern log k ≡ cond b (refused 10 0) accepted
+  unfolding pickRefusal
+  pick-count b e h = ap₂ (λ a b. cond a (cond b (refused 10 0) accepted) (refusal pattern log)) e h
+
+  -- it is accepted exactly where they are, and k is 1 to 16
+  pub pick-accepted : pickRefusal pattern log k .number ≡ 0 → (refusal pattern log .number ≡ 0) × (1 ≤ k) × (k ≤ 16)
+  pick-accepted e = go (eqb (refusal pattern log .number) 0) (badCount k) refl refl
     where
-      go : (a b : Bool) → eqb (refusal pattern log .number) 0 ≡ a → badCount k ≡ b → which a b .number ≡ 0 → (refusal pattern log .number ≡ 0) × (1 ≤ k) × (k ≤ 16)
-      go true true i j h = absurd (omega arith)
-      go true false i j h =
+      go : (a b : Bool) → eqb (refusal pattern log .number) 0 ≡ a → badCount k ≡ b → (refusal pattern log .number ≡ 0) × (1 ≤ k) × (k ≤ 16)
+      go true true i j = absurd (omega (arith, e, ap (λ (x : Refusal). x .number) (pick-count true i j)))
+      go true false i j =
           let c = and-true (leb 1 k) (leb k 16) (not-false (leb 1 k && leb k 16) j) in
           (eqb-true (refusal pattern log .number) 0 i, leb-true 1 k (c .0), leb-true k 16 (c .1))
-      go false b i j h = absurd (eqb-false (refusal pattern log .number) 0 i h)
+      go false b i j = absurd (eqb-false (refusal pattern log .number) 0 i (sym (ap (λ (x : Refusal). x .number) (pick-as i)) ∙ e))
 
   pub pick-allowed : refusal pattern log .number ≡ 0 → 1 ≤ k → k ≤ 16 → pickRefusal pattern log k .number ≡ 0
-  unfolding pickRefusal
-  pick-allowed e h i = ap₂ (λ a b. which a (not b) .number) (eq-eqb (refusal pattern log .number) 0 e) (true-and (leb 1 k) (leb k 16) (le-leb 1 k h) (le-leb k 16 i))
+  pick-allowed e h i = ap (λ (x : Refusal). x .number) (pick-count false (eq-eqb (refusal pattern log .number) 0 e) (ap not (true-and (leb 1 k) (leb k 16) (le-leb 1 k h) (le-leb k 16 i))))

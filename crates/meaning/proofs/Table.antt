@@ -1,6 +1,6 @@
 -- The list of a pattern is that of the table it is read into: node by node, each operand standing where the table's walk goes. Assumes nothing.
 use Prim.Native.Nat.{ℕ, suc, _+_, _-_, _≤_, _<_}
-use mathlib.Core.Path.{_≡_, ap, ap₂, _∙_}
+use mathlib.Core.Path.{_≡_, refl, ap, ap₂, _∙_}
 use mathlib.Core.List.{List, _∷_, map}
 use native.Mathlib.Omega.{arith}
 use Rattle.stretches.specs.Stretch.{Stretch, marks}
@@ -45,7 +45,12 @@ module _ (rows : List ℕ) (ls : List Line) where
         ∙ ap₂ (λ (l : List Stretch) (m : List (List Stretch)). l ∷ m) (tree-list c p (t .0) (omega arith))
         (ap (operandsFrom (overTable rows ls) rows stop) n ∙ trees-lists stop (c + nodes p) ps (t .1) (omega arith) (omega arith))
 
--- the first node's list is the pattern's
+-- the list of a table in a log is that of its first node over the log's lines
+pub table-in : (rows log : List ℕ) → tableIn rows log ≡ listAt (overTable rows (says log)) rows 0
+unfolding tableIn
+table-in rows log = refl
+
+-- and the pattern's
 pub table-answers : (rows : List ℕ) (p : Pattern) (log : List ℕ) → Tree rows 0 p → nodes p ≤ 32 → tableIn rows log ≡ answersIn p log
 unfolding tableIn
 table-answers rows p log t few = tree-list rows (says log) 0 p t (omega arith)

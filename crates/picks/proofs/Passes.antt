@@ -2,7 +2,7 @@
 use Prim.Native.Nat.{ℕ, suc, _+_, _-_, _*_, _≤_, _<_}
 use mathlib.Core.Path.{_≡_, refl, sym, ap, ap₂, subst, _∙_}
 use mathlib.Core.Logic.{_⊎_, inl, inr}
-use mathlib.Core.Bool.{Bool, true, false, not, cond, _&&_, _||_}
+use mathlib.Core.Bool.{Bool, true, false, cond, _&&_, _||_}
 use mathlib.Core.List.{List, [], _∷_}
 use lib.Dec.{leb, ltb, eqb}
 use lib.ListN.{length, getD, take, drop, replicate, length-take, drop-of-length-le}
@@ -24,6 +24,10 @@ use Rattle.seek.proofs.Ahead.{rest, step-ready, step-none, step-some}
 use Rattle.picks.specs.Picks.{ahead, apart}
 use Rattle.picks.specs.inner.Remaining.{clear, remaining, shortestOf}
 use Rattle.picks.specs.inner.Passes.{heldIn, Lying, nearer, nextOf, better}
+
+-- the machine's stretches lie on lines
+pub answers-lie : (src : Source) (rows : List ℕ) → Good src rows → Lying (listOver src rows 0)
+answers-lie src rows good s e m = let f = fine src rows good 0 (omega arith) in (f .sound s e m, f .below s e m)
 
 -- ── Which is ahead ──
 
@@ -166,8 +170,8 @@ module _ (src : Source) (rows : List ℕ) (ps : List Stretch) (good : Good src r
   fine-all : Fine 65536 l
   fine-all = fine src rows good 0 (omega arith)
 
-  low : (s e : ℕ) → In s e l → (s ≤ e) × (e < 65536)
-  low s e m = (fine-all .sound s e m, fine-all .below s e m)
+  low : Lying l
+  low = answers-lie src rows good
 
   pub pass-start : {r : Front} → r ≡ nextOf 0 noneF ps → Pass src rows ps (replicate 128 0) noneF r 0
   pass-start {r} e = record {

@@ -21,14 +21,13 @@ use Rattle.meaning.specs.Meaning.{tableIn}
 use Rattle.meaning.specs.Refusals.{Refusal, refused, accepted, badCount, refusal, pickRefusal}
 use Rattle.meaning.specs.Finding.{listOf}
 use Rattle.meaning.specs.declared.Reply.{Reply}
-use Rattle.meaning.proofs.Finding.{good-pattern, accepted-number, pick-accepted}
+use Rattle.meaning.proofs.Finding.{good-pattern, accepted-number, pick-as, pick-count, pick-accepted}
 use Rattle.acceptance.specs.declared.Readied.{Readied}
 use Rattle.acceptance.specs.Readied.{readied}
 use Rattle.acceptance.proofs.Reading.{table-list}
 use Rattle.seek.specs.declared.Front.{Front}
 use Rattle.seek.specs.Source.{Source, source, listOver, Good}
 use Rattle.seek.specs.First.{front}
-use Rattle.seek.proofs.Nodes.{fine}
 use Rattle.plan.specs.Plan.{prepared}
 use Rattle.plan.specs.inner.Room.{Roomy}
 use Rattle.plan.proofs.Planning.{machine-list}
@@ -37,6 +36,7 @@ use Rattle.picks.specs.Picks.{shortest, picksOf}
 use Rattle.picks.specs.inner.Remaining.{clear, remaining, shortestOf}
 use Rattle.picks.specs.inner.Passes.{heldIn, Lying, Wrote, refusalNumber}
 use Rattle.picks.proofs.Laws.{shortest-in, picks-answers, pick-number, picks-take, picks-most, picks-few, few-none}
+use Rattle.picks.proofs.Passes.{answers-lie}
 
 -- the stretch of a front
 abbrev stretch-in : Stretch → fronts.Front → Stretch
@@ -59,8 +59,8 @@ module _ (src : Source) (rows : List ℕ) (good : Good src rows) (k : ℕ) (cell
   abbrev all : List Stretch
   all = picksOf k l
 
-  lying : (s e : ℕ) → In s e l → (s ≤ e) × (e < 65536)
-  lying s e m = let f = fine src rows good 0 (omega arith) in (f .sound s e m, f .below s e m)
+  lying : Lying l
+  lying = answers-lie src rows good
 
   module _ (cells : List ℕ) (n : ℕ) (few : n ≤ k) (p : Partly all n cells₀ cells) where
     held : heldIn cells n ≡ picksOf n l
@@ -163,27 +163,23 @@ module _ (text log : List ℕ) (k : ℕ) (cells : List ℕ) where
     number-is : r .number ≡ refusal text log .number
     number-is = ap (λ (x : Readied). x .number) e
 
-    -- the refusal, where pattern and log are accepted
-    counted : (b : Bool) → r .number ≡ 0 → badCount k ≡ b → pickRefusal text log k ≡ cond b (refused 10 0) accepted
-    unfolding pickRefusal
-    counted b z h = ap₂ (λ a b. cond a (cond b (refused 10 0) accepted) (refusal text log)) (eq-eqb (refusal text log .number) 0 (sym number-is ∙ z)) h
+    given : {b : Bool} → eqb (r .number) 0 ≡ b → eqb (refusal text log .number) 0 ≡ b
+    given i = ap (λ (j : ℕ). eqb j 0) (sym number-is) ∙ i
 
     module _ {n : ℕ} (en : n ≡ refusalNumber (r .number) k) where
       pub pick-refused : (n ≡ 0 → ⊥) → Gives n (r .place) 0 cells
-      unfolding pickRefusal
       pick-refused bad = go (eqb (r .number) 0) (badCount k) refl refl en
         where
           go : (a b : Bool) → eqb (r .number) 0 ≡ a → badCount k ≡ b → n ≡ cond a (cond b 10 0) (r .number) → Gives n (r .place) 0 cells
           go true true i j h =
               let z : r .number ≡ 0 = eqb-true (r .number) 0 i in
-              let k = accepted-number text log (sym number-is ∙ z) in
-              let p : r .place ≡ 0 = ap (λ (x : Readied). x .place) e ∙ ap (λ (x : Refusal). x .place) (good-pattern text log (k .tree) (k .brief) (k .reads)) in
-              subst (λ (x : ℕ). Gives x (r .place) 0 cells) (sym h) (subst (λ (x : ℕ). Gives 10 x 0 cells) (sym p) (refused-call (refused 10 0) (counted true z j) refl))
+              let a = accepted-number text log (sym number-is ∙ z) in
+              let p : r .place ≡ 0 = ap (λ (x : Readied). x .place) e ∙ ap (λ (x : Refusal). x .place) (good-pattern text log (a .tree) (a .brief) (a .reads)) in
+              subst (λ (x : ℕ). Gives x (r .place) 0 cells) (sym h) (subst (λ (x : ℕ). Gives 10 x 0 cells) (sym p) (refused-call (refused 10 0) (pick-count text log k true (given i) j) refl))
           go true false i j h = absurd (bad h)
           go false b i j h =
-              let m : eqb (refusal text log .number) 0 ≡ false = ap (λ (x : Readied). eqb (x .number) 0) (sym e) ∙ i in
               subst (λ (x : ℕ). Gives x (r .place) 0 cells) (sym h) (subst (λ (x : Readied). Gives (x .number) (x .place) 0 cells) (sym e)
-              (refused-call (refusal text log) (ap (λ c. cond c (cond (badCount k) (refused 10 0) accepted) (refusal text log)) m) m))
+              (refused-call (refusal text log) (pick-as text log k (given i)) (given i)))
 
       module _ (ok : n ≡ 0) where
         -- then neither refuses
@@ -199,7 +195,7 @@ module _ (text log : List ℕ) (k : ℕ) (cells : List ℕ) where
         unfolding picksIn
         pick-done count cells′ g =
             let z : r .number ≡ 0 = pick-goes .0 in
-            let a : pickRefusal text log k ≡ accepted = counted false z (pick-goes .1) in
+            let a : pickRefusal text log k ≡ accepted = pick-count text log k false (given (eq-eqb (r .number) 0 z)) (pick-goes .1) in
             let l : tableIn (r .rows) log ≡ listOf text log = ap (λ (x : Readied). tableIn (x .rows) log) e ∙ table-list text log (sym number-is ∙ z) in
             let ps : picksOf k (tableIn (r .rows) log) ≡ picksIn text log k =
             ap (picksOf k) l ∙ sym (ap (λ (y : Refusal). cond (eqb (y .number) 0) (picksOf k (listOf text log)) []) a) in

@@ -26,6 +26,7 @@ use Rattle.records.specs.Line.{says}
 use Rattle.records.specs.Leaf.{codeIs, frameIs}
 use Rattle.meaning.specs.Meaning.{hits, overTable, tableIn}
 use Rattle.meaning.proofs.Run.{says-few}
+use Rattle.meaning.proofs.Table.{table-in}
 use Rattle.seek.specs.Source.{source, lent, ownList, given, listOver, Good}
 use Rattle.folding.specs.Fold.{Folding, folding, withLeaf, folded}
 use Rattle.seek.proofs.Nodes.{no-operator}
@@ -287,13 +288,12 @@ module _ (rows log : List ℕ) (w : ℕ) (words : List ℕ) (wide : length rows 
 -- in words with room the machine's table is fine, and its list is the one that the pattern's table has in the log
 pub machine-list : (rows log : List ℕ) (w : ℕ) (words t words′ : List ℕ) → Roomy rows log w words → t ≡ prepared rows log w words .rows → words′ ≡ prepared rows log w words .words
     → Good (source words′ []) t × (listOver (source words′ []) t 0 ≡ tableIn rows log)
-unfolding tableIn
 machine-list rows log w words t words′ h et ew =
     let lines : length (says log) ≤ 64 * w = omega (arith, h .1) in
     let narrow : w ≤ 1024 = omega (arith, h .2) in
     let room = room-enough rows w (length words) (h .3) in (
       subst (λ (x : List ℕ). Good (source x []) t) (sym ew) (subst (Good (source (prepared rows log w words .words) [])) (sym et) (prepared-good rows log w words (h .0) narrow lines room)),
-      ap₂ (λ (x y : List ℕ). listOver (source x []) y 0) ew et ∙ prepared-lists rows log w words (h .0) narrow lines room 0,
+      ap₂ (λ (x y : List ℕ). listOver (source x []) y 0) ew et ∙ prepared-lists rows log w words (h .0) narrow lines room 0 ∙ sym (table-in rows log),
     )
 
 -- a log that is not too long has rows of at most 960 words
