@@ -5,5 +5,6 @@ pub mod NumeralLaws
 pub mod RowLaws
 pub mod LineLaws
 pub mod SpellingLaws
+pub mod RecordLines
 pub mod RangeLaws
 pub mod Walk
