@@ -155,6 +155,7 @@ fn main() {
         "", "bytes", "found", "finder us", "plain us", "ratio", "ns/byte", "ns/byte"
     );
     row("3,000 lines, six operators", SIX, &evening, 3_000);
+    row("3,000 lines, six, lanes padded", SIX, &inputs::with_lanes(&evening, inputs::padded), 3_000);
     row("3,000 lines, one leaf, no match", "ev,254,99", &evening, 3_000);
     row("3,000 lines, one leaf, most match", "ev,2,0", &evening, 3_000);
     row("3,000 lines, or of 31 leaves", &leaves("or"), &evening, 3_000);

@@ -1,5 +1,6 @@
 //! Wrong variants of the plain calls: each exchanges one part.
 
+use crate::lane_faults;
 use crate::lent::{self, Taken};
 use crate::pick_faults;
 use crate::plain::{Plain, RIGHT};
@@ -98,6 +99,7 @@ fn other_and(lists: &[List], p: u64, line_8: bool, higher_first: bool) -> Taken 
 pub fn variants() -> Vec<(&'static str, Plain)> {
     let mut all = over_meaning();
     all.extend(over_reading());
+    all.extend(lane_faults::variants());
     all.extend(over_handing_back());
     all.extend(over_steps());
     all.extend(over_log_alone());
@@ -206,7 +208,6 @@ fn over_reading() -> Vec<(&'static str, Plain)> {
             }),
         ),
         ("an unended line read as sound", log(|log| mended(log, |line| format!("{line}\n")))),
-        ("a leading zero in the lane", log(|log| mended(log, |line| line.replacen(",0", ",", 1)))),
         ("a carriage return passed over", log(|log| mended(log, |line| line.replacen("\r\n", "\n", 1)))),
         ("handicap 301", log(|log| mended(log, |line| line.replacen(",301,", ",300,", 1)))),
         ("pins 11", log(|log| mended(log, |line| line.replacen(",11\n", ",10\n", 1)))),

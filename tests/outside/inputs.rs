@@ -1,7 +1,7 @@
 //! Seeded inputs: patterns, logs and lists, sound and spoiled.
 #![allow(dead_code)]
 
-use crate::reference::{List, Op, Stretch, Tree, OPS};
+use crate::reference::{self, List, Op, Stretch, Tree, OPS};
 
 /// SplitMix64.
 pub struct Rng(pub u64);
@@ -32,14 +32,14 @@ impl Rng {
     }
 }
 
-// Few values, so that patterns and logs meet; handicaps are also frames.
-const LANES: [u32; 3] = [1, 4, 5];
+// Few values, so that patterns and logs meet; lanes reach from the least to the greatest that may be padded, and handicaps are also frames.
+const LANES: [u32; 3] = [1, 4, 9];
 const CODES: [u32; 4] = [1, 7, 9, 12];
 const FRAMES: [u32; 4] = [0, 1, 3, 10];
 const HANDICAPS: [u32; 6] = [0, 1, 3, 10, 20, 300];
 /// Bytes and numbers at the edges of the rules.
 const BYTES: &[u8] = b"0123456789,,,\n\n\r\0 +-.\tevforandwthlsmxE\x7f\x80\xff/:";
-const NUMBERS: [&str; 24] = [
+const NUMBERS: [&str; 29] = [
     "0",
     "1",
     "2",
@@ -60,6 +60,11 @@ const NUMBERS: [&str; 24] = [
     "99999",
     "00",
     "01",
+    "04",
+    "07",
+    "004",
+    "012",
+    "099",
     "-1",
     "+1",
     "",
@@ -67,7 +72,7 @@ const NUMBERS: [&str; 24] = [
 ];
 
 pub fn leaf(rng: &mut Rng) -> Tree {
-    let lane = if rng.once_in(10) { rng.range(0, 99) } else { rng.pick(&[0, 0, 0, 1, 4, 5]) };
+    let lane = if rng.once_in(10) { rng.range(0, 99) } else { rng.pick(&[0, 0, 0, 1, 4, 9]) };
     if rng.once_in(3) {
         Tree::Fr { frame: if rng.once_in(8) { rng.range(0, 10) } else { rng.pick(&FRAMES) }, lane }
     } else {
@@ -127,7 +132,7 @@ pub fn crossing(rng: &mut Rng) -> Tree {
 pub fn spoil(rng: &mut Rng, text: &mut Vec<u8>) {
     let at = rng.below(text.len() + 1);
     let byte = if rng.once_in(4) { rng.next() as u8 } else { rng.pick(BYTES) };
-    match rng.below(7) {
+    match rng.below(8) {
         0 => text.truncate(at),
         1 => text.insert(at, byte),
         2 if at < text.len() => text[at] = byte,
@@ -136,6 +141,12 @@ pub fn spoil(rng: &mut Rng, text: &mut Vec<u8>) {
             let to = (at + rng.below(12)).min(text.len());
             let part = text[at..to].to_vec();
             text.splice(at..at, part);
+        }
+        5 => {
+            let starts: Vec<usize> = (0..text.len()).filter(|&i| i == 0 || text[i - 1] == b',').collect();
+            if !starts.is_empty() {
+                text.insert(rng.pick(&starts), b'0');
+            }
         }
         _ => {
             let commas: Vec<usize> = (0..text.len()).filter(|&i| text[i] == b',').collect();
@@ -163,11 +174,12 @@ pub fn pattern(rng: &mut Rng) -> Vec<u8> {
     text
 }
 
-/// A sound line.
+/// A sound line; one in three of the lanes below ten is padded.
 pub fn line(rng: &mut Rng) -> String {
     let (lane, code) = if rng.once_in(12) { (rng.range(1, 99), rng.range(1, 255)) } else { (rng.pick(&LANES), rng.pick(&CODES)) };
     let frame = if rng.once_in(8) { rng.range(0, 10) } else { rng.pick(&FRAMES) };
     let pins = rng.range(0, 10);
+    let lane = if rng.once_in(3) { padded(lane) } else { lane.to_string() };
     if rng.once_in(2) {
         format!("1,{lane},{code},{frame},{pins}\n")
     } else {
@@ -176,9 +188,45 @@ pub fn line(rng: &mut Rng) -> String {
     }
 }
 
+/// A lane with a leading zero if it is below ten.
+pub fn padded(lane: u32) -> String {
+    format!("{lane:02}")
+}
+
+/// A log with the lanes of its sound lines as `spell` has them.
+pub fn with_lanes(log: &[u8], spell: impl Fn(u32) -> String) -> Vec<u8> {
+    let line = |line: &[u8]| match reference::record(line) {
+        Some(record) => {
+            let fields: Vec<&[u8]> = line.splitn(3, |&b| b == b',').collect();
+            [fields[0], spell(record.lane).as_bytes(), fields[2]].join(&b',')
+        }
+        None => line.to_vec(),
+    };
+    reference::lines(log).into_iter().flat_map(line).collect()
+}
+
 /// About `lines` lines, one in `damage` of them spoiled (0: none); sometimes the last is not ended.
 pub fn log(rng: &mut Rng, lines: usize, damage: usize) -> Vec<u8> {
-    const WRECKS: [&str; 8] = ["\n", "oops\n", "\r\n", "1,4,7,3,6\r\n", "1,4,7,3\n", "2,4,7,3,6\n", "1,4,7,20,3,6\n", " 1,4,7,3,6\n"];
+    const WRECKS: [&str; 18] = [
+        "\n",
+        "oops\n",
+        "\r\n",
+        "1,4,7,3,6\r\n",
+        "1,4,7,3\n",
+        "2,4,7,3,6\n",
+        "1,4,7,20,3,6\n",
+        " 1,4,7,3,6\n",
+        "1,00,7,3,6\n",
+        "2,012,7,20,3,6\n",
+        "1,099,7,3,6\n",
+        "1,004,7,3,6\n",
+        "2,0,7,20,3,6\n",
+        "01,4,7,3,6\n",
+        "1,4,07,3,6\n",
+        "2,4,7,020,3,6\n",
+        "1,4,7,03,6\n",
+        "1,4,7,3,06\n",
+    ];
     let mut log = Vec::new();
     for _ in 0..lines {
         let mut text = line(rng).into_bytes();

@@ -59,7 +59,7 @@ pub fn reference(t: &Trial) -> Outcome {
         agree("lines literal and quick", lines, quick_lines, input)?;
         count += 2;
     }
-    for base in ["1,4,7,3,6\n", "2,10,100,300,10,10\n"] {
+    for base in ["1,4,7,3,6\n", "1,04,7,3,6\n", "2,10,100,300,10,10\n"] {
         for line in inputs::edits(base.as_bytes()) {
             let mut sound = Vec::new();
             quick::read_log(&line, |_, l| sound.push(l.is_some()));

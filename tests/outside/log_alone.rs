@@ -16,7 +16,7 @@ fn at_the_bound() -> Vec<Vec<u8>> {
 /// Counts: every single edit of a few lines, then random logs, then lengths around the bound.
 pub fn counts(t: &Trial) -> Outcome {
     let mut rng = Rng(9);
-    let bases = ["1,4,7,3,6\n", "2,4,7,20,3,0\n", "1,99,255,10,10\n", "2,10,100,300,10,10\n", "1,4,7,3,6\n2,1,1,0,0,0\n"];
+    let bases = ["1,4,7,3,6\n", "2,4,7,20,3,0\n", "1,04,7,3,6\n", "1,99,255,10,10\n", "2,10,100,300,10,10\n", "1,4,7,3,6\n2,01,1,0,0,0\n"];
     let mut logs: Vec<Vec<u8>> = bases.iter().flat_map(|base| inputs::edits(base.as_bytes())).step_by(t.part).collect();
     for _ in 0..t.rounds(6_000) {
         let lines = if rng.once_in(20) { rng.below(4_000) } else { rng.below(16) };
@@ -75,13 +75,14 @@ pub fn cases(t: &Trial) -> Outcome {
     for (log, due) in &counts {
         same("a count", &[reference::count(log), t.calls.count(log)], *due, log)?;
     }
-    let parts: [(Vec<u8>, u32, u32, u64); 9] = [
+    let parts: [(Vec<u8>, u32, u32, u64); 10] = [
         (SHEET_LOG.to_vec(), 0, 0, 10 << 32),
         (SHEET_LOG.to_vec(), 1, 2, 19 << 32 | 10),
         (SHEET_LOG.to_vec(), 0, 4, 49 << 32),
         (SHEET_LOG[..48].to_vec(), 4, 4, 9 << 32 | 39),
         (SHEET_LOG.to_vec(), 4, 5, 0),
         (SHEET_LOG.to_vec(), 2, 1, 0),
+        (b"1,04,7,3,6\n2,9,12,20,3,0\n2,04,9,20,0,0\n".to_vec(), 1, 2, 28 << 32 | 11),
         (b"".to_vec(), 0, 0, 0),
         (feeds(61_440), 1, 61_439, 61_439 << 32 | 1),
         (feeds(61_441), 0, 0, 0),

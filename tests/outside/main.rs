@@ -6,6 +6,8 @@ mod compare;
 mod faults;
 mod inputs;
 mod itself;
+mod lane_faults;
+mod lanes;
 mod lent;
 mod log_alone;
 mod over_lists;
@@ -35,7 +37,7 @@ pub type Outcome = Result<usize, String>;
 type Group = (&'static str, fn(&Trial) -> Outcome);
 
 /// Groups that try the calls on seeded inputs.
-const SEEDED: [Group; 16] = [
+const SEEDED: [Group; 17] = [
     ("patterns", over_logs::patterns),
     ("lines", over_logs::lines),
     ("logs", over_logs::logs),
@@ -43,6 +45,7 @@ const SEEDED: [Group; 16] = [
     ("bounds", over_logs::bounds),
     ("runs", over_logs::runs),
     ("steps", over_logs::steps),
+    ("padding", lanes::padding),
     ("counts", log_alone::counts),
     ("parts", log_alone::parts),
     ("lists", over_lists::lists),
@@ -54,9 +57,10 @@ const SEEDED: [Group; 16] = [
     ("laws of picks", picking::laws),
 ];
 
-const FIXED: [Group; 5] = [
+const FIXED: [Group; 6] = [
     ("reference", itself::reference),
     ("worked cases", itself::cases),
+    ("lane fields", lanes::cases),
     ("samples", over_logs::samples),
     ("log alone", log_alone::cases),
     ("worked picks", picking::cases),

@@ -33,7 +33,16 @@ pub fn patterns(t: &Trial) -> Outcome {
 /// code, frame and lane.
 pub fn lines(t: &Trial) -> Outcome {
     let mut rng = Rng(2);
-    let bases = ["1,4,7,3,6\n", "2,4,7,20,3,0\n", "1,99,255,10,10\n", "2,10,100,300,10,10\n", "1,1,1,0,0\n", "2,1,1,0,0,0\n"];
+    let bases = [
+        "1,4,7,3,6\n",
+        "2,4,7,20,3,0\n",
+        "1,04,7,3,6\n",
+        "2,09,7,20,3,0\n",
+        "1,99,255,10,10\n",
+        "2,10,100,300,10,10\n",
+        "1,1,1,0,0\n",
+        "2,1,1,0,0,0\n",
+    ];
     let mut texts: Vec<Vec<u8>> = bases.iter().flat_map(|base| inputs::edits(base.as_bytes())).step_by(t.part).collect();
     for fields in [vec!["1", "4", "7", "3", "6"], vec!["2", "4", "7", "20", "3", "0"]] {
         for field in 0..fields.len() {
