@@ -8,7 +8,7 @@
    keeps no pointer and no state, allocates nothing and always returns; any number of threads may call at once.
 
    Lines of a log count from 0. A stretch is given by its first and last line, both included. A damaged line fits no layout: it keeps its
-   number and matches nothing.
+   number and matches nothing. A log may have lanes 1 to 9 with one leading zero, a pattern may not.
 
    Cost: the time of a call over a log grows with the log's length and no faster. For an evening of 3,000 lines finder_fill takes tens of
    microseconds, with the worst patterns some hundreds; finder_count takes some 20, finder_lines up to some 35 for the last lines and
@@ -20,9 +20,9 @@
 #include <stddef.h>
 #include <stdint.h>
 
-#define FINDER_VERSION "1.1.0"
+#define FINDER_VERSION "1.2.0"
 #define FINDER_VERSION_MAJOR 1
-#define FINDER_VERSION_MINOR 1
+#define FINDER_VERSION_MINOR 2
 #define FINDER_VERSION_PATCH 0
 
 #ifdef __cplusplus
