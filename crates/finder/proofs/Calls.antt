@@ -30,7 +30,7 @@ use Rattle.acceptance.proofs.Reading.{table-list}
 use Rattle.walk.specs.declared.Walked.{Walked}
 use Rattle.seek.specs.Source.{source}
 use Rattle.walk.specs.Filling.{Filling, FillAll}
-use Rattle.plan.specs.Plan.{prepared}
+use Rattle.plan.specs.Plan.{soundWords, prepared, preparedSound}
 use Rattle.plan.specs.inner.Room.{Roomy}
 use Rattle.plan.proofs.Planning.{machine-list}
 use Rattle.finder.specs.declared.Finder.{Finder}
@@ -84,11 +84,11 @@ short-list rows log line f cells w cells′ h g =
     subst (λ (l : List Stretch). Filling (onward l line) f cells w cells′) (sym (ap (λ b. cond b [] (tableIn rows log)) (le-ltb 61440 (length log) h))) g
 
 -- over the machine's table
-pub machine-fills : (rows log : List ℕ) (w : ℕ) (words t words′ : List ℕ) (line f : ℕ) (cells : List ℕ) (r : Walked) (cells′ : List ℕ)
-    → Roomy rows log w words → t ≡ prepared rows log w words .rows → words′ ≡ prepared rows log w words .words
-    → FillAll (source words′ []) t line f cells r cells′ → Filling (onward (tableIn rows log) line) f cells r cells′
-machine-fills rows log w words t words′ line f cells r cells′ h et ew g =
-    let m = machine-list rows log w words t words′ h et ew in
+pub machine-fills : (rows log : List ℕ) (w : ℕ) (words sound kept t words′ kept′ : List ℕ) (line f : ℕ) (cells : List ℕ) (r : Walked) (cells′ : List ℕ)
+    → Roomy rows log w words sound → length kept ≡ soundWords rows w → t ≡ prepared rows log w words .rows → words′ ≡ prepared rows log w words .words → kept′ ≡ preparedSound rows log w words kept
+    → FillAll (source words′ [] kept′) t line f cells r cells′ → Filling (onward (tableIn rows log) line) f cells r cells′
+machine-fills rows log w words sound kept t words′ kept′ line f cells r cells′ h fits et ew ek g =
+    let m = machine-list rows log w words sound h kept t words′ kept′ fits et ew ek in
     subst (λ (l : List Stretch). Filling (onward l line) f cells r cells′) (m .1) (g .fills (m .0))
 
 -- the filling call

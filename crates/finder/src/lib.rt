@@ -4,7 +4,9 @@ use lines::LOG_MAX;
 use meaning::Filled;
 use nodes::TABLE;
 use plan::FEW;
+use plan::FEW_SOUND;
 use plan::FEW_WORDS;
+use plan::SOUND;
 use plan::WORDS;
 use walk::Walked;
 ghost use mathlib.Core.Path.{_≡_};
@@ -63,19 +65,21 @@ fn fill_with(
     log: &[u8],
     width: usize,
     words: &mut [u64],
+    sound: &mut [u64],
     cells: &mut [u32],
     line: u32,
     from: usize,
 ) -> Walked
-    requires { ⌜ Roomy (now rows) (now log) width (now words) ⌝ }
+    requires { ⌜ Roomy (now rows) (now log) width (now words) (now sound) ⌝ }
     ensures { λ r. ⌜ Filling (onward (tableIn (now (rows .entry)) (now (log .entry))) line) from (now (cells .entry)) r (now (cells .exit)) ⌝ }
 {
-    let table = plan::prepare(rows, log, width, words);
+    let n = plan::sound_words(rows, width);
+    let table = plan::prepare(rows, log, width, words, &mut sound[..n]);
     let items = [0u32; 1];
-    walk::fill(&table, words, &items[..0], cells, line, from)
+    walk::fill(&table, words, &items[..0], &sound[..n], cells, line, from)
 }
 
-// Few lines: 32 KiB of words.
+// Few lines: 32 KiB of words, and 2 for the sound lines.
 fn fill_small(
     rows: &[usize; TABLE],
     log: &[u8],
@@ -88,10 +92,20 @@ fn fill_small(
     ensures { λ r. ⌜ Filling (onward (tableIn (now (rows .entry)) (now (log .entry))) line) from (now (cells .entry)) r (now (cells .exit)) ⌝ }
 {
     let mut words = [0u64; FEW_WORDS];
-    fill_with(rows, log, width, &mut words[..], cells, line, from)
+    let mut sound = [0u64; FEW_SOUND];
+    fill_with(
+        rows,
+        log,
+        width,
+        &mut words[..],
+        &mut sound[..],
+        cells,
+        line,
+        from,
+    )
 }
 
-// Any number of lines: 240 KiB of words.
+// Any number of lines: 240 KiB of words, and 15 for the sound lines.
 fn fill_large(
     rows: &[usize; TABLE],
     log: &[u8],
@@ -104,7 +118,17 @@ fn fill_large(
     ensures { λ r. ⌜ Filling (onward (tableIn (now (rows .entry)) (now (log .entry))) line) from (now (cells .entry)) r (now (cells .exit)) ⌝ }
 {
     let mut words = [0u64; WORDS];
-    fill_with(rows, log, width, &mut words[..], cells, line, from)
+    let mut sound = [0u64; SOUND];
+    fill_with(
+        rows,
+        log,
+        width,
+        &mut words[..],
+        &mut sound[..],
+        cells,
+        line,
+        from,
+    )
 }
 
 // Writes the table's answers in the log that start at or after `line`, from number `from` of them on; a log that is too long has none.

@@ -17,7 +17,7 @@ use Rattle.stretches.specs.Table.{kindAt, sizeAt, firstAt, secondAt, Given, lis
 use Rattle.stretches.specs.inner.Operands.{operandsOf}
 use Rattle.stretches.proofs.Table.{list-node, same-lists}
 use Rattle.marks.specs.Row.{row}
-use Rattle.seek.specs.Source.{source, measured, lent, ownList, given, listOver, Good}
+use Rattle.seek.specs.Source.{source, lent, ownList, given, listOver, Good}
 use Rattle.folding.specs.Fold.{withLeaf}
 use Rattle.seek.proofs.Nodes.{fine}
 
@@ -25,10 +25,6 @@ use Rattle.seek.proofs.Nodes.{fine}
 pub record Before (rows : List ℕ) (free : ℕ) : Type 0 where
   pub wide : length rows ≡ 160
   pub ends : (v : ℕ) → v < 32 → kindAt rows v ≡ 16 → firstAt rows v + secondAt rows v ≤ free
-
--- what `max` measures is the same over words with another row
-same-measure : (words words' items : List ℕ) → measured (source words' items) ≡ measured (source words items)
-same-measure words words' items = refl
 
 apart : {u v : ℕ} → (u < v) ⊎ (v < u) → u ≡ v → ⊥
 apart (inl h) z = omega arith
@@ -92,18 +88,18 @@ module _ (rows : List ℕ) (v at width : ℕ) (wide : length rows ≡ 160) (lv :
 
   -- ── The lists ──
 
-  module _ (items words words' : List ℕ)
+  module _ (items sound words words' : List ℕ)
       (others : (u : ℕ) → u < 32 → kindAt rows u ≡ 16 → row words' (firstAt rows u) (secondAt rows u) ≡ row words (firstAt rows u) (secondAt rows u))
-      (list : marks 0 (row words' at width) ≡ listOver (source words items) rows v) where
+      (list : marks 0 (row words' at width) ≡ listOver (source words items sound) rows v) where
     abbrev old : Given
-    old = given (source words items) rows
+    old = given (source words items sound) rows
 
     abbrev new : Given
-    new = given (source words' items) rows'
+    new = given (source words' items sound) rows'
 
     leaf-own : new .own v ≡ listAt old rows v
     leaf-own =
-        ap (λ (k : ℕ). ownList (source words' items) k (firstAt rows' v) (secondAt rows' v)) leaf-kind
+        ap (λ (k : ℕ). ownList (source words' items sound) k (firstAt rows' v) (secondAt rows' v)) leaf-kind
         ∙ ap₂ (λ (a b : ℕ). marks 0 (row words' a b)) leaf-first leaf-second ∙ list
 
     else-own : (u : ℕ) → u < 32 → (u ≡ v → ⊥) → new .own u ≡ old .own u
@@ -111,8 +107,8 @@ module _ (rows : List ℕ) (v at width : ℕ) (wide : length rows ≡ 160) (lv :
         let a = firstAt rows u in
         let b = secondAt rows u in
         let other = cond (eqb (kindAt rows u) 17) (lent items a b) [] in
-        ap (λ (k : ℕ). ownList (source words' items) k (firstAt rows' u) (secondAt rows' u)) (else-kind u lu n)
-        ∙ ap₂ (λ (a b : ℕ). ownList (source words' items) (kindAt rows u) a b) (else-first u lu n) (else-second u lu n)
+        ap (λ (k : ℕ). ownList (source words' items sound) k (firstAt rows' u) (secondAt rows' u)) (else-kind u lu n)
+        ∙ ap₂ (λ (a b : ℕ). ownList (source words' items sound) (kindAt rows u) a b) (else-first u lu n) (else-second u lu n)
         ∙ cases (eqb (kindAt rows u) 16) (λ t. cond t (marks 0 (row words' a b)) other ≡ cond t (marks 0 (row words a b)) other)
         (λ e. ap (marks 0) (others u lu (eqb-true (kindAt rows u) 16 e))) (λ e. refl)
 
@@ -126,16 +122,16 @@ module _ (rows : List ℕ) (v at width : ℕ) (wide : length rows ≡ 160) (lv :
         go (inr n) =
             let z = apart n in
             ap₂ (λ (k a : ℕ). apply (operatorOf (new .measure) k a) (new .own u) (operandsOf old rows u)) (else-kind u lu z) (else-first u lu z)
-            ∙ ap₂ (λ (m : Stretch → ℕ) (l : List Stretch). apply (operatorOf m (kindAt rows u) (firstAt rows u)) l (operandsOf old rows u)) (same-measure words words' items) (else-own u lu z)
+            ∙ ap (λ (l : List Stretch). apply (operatorOf (new .measure) (kindAt rows u) (firstAt rows u)) l (operandsOf old rows u)) (else-own u lu z)
             ∙ sym (list-node old rows u lu)
 
     pub leaf-lists : (u : ℕ) → listAt new rows' u ≡ listAt old rows u
     leaf-lists = same-lists old new rows rows' leaf-size leaf-node
 
     -- own lists stay fine
-    pub leaf-good : Good (source words items) rows → Good (source words' items) rows'
+    pub leaf-good : Good (source words items sound) rows → Good (source words' items sound) rows'
     leaf-good good u lu = go (eq-or-ne u v)
       where
         go : (u ≡ v) ⊎ ((u < v) ⊎ (v < u)) → Fine 65536 (new .own u)
-        go (inl z) = subst (λ (u : ℕ). Fine 65536 (new .own u)) (sym z) (subst (Fine 65536) (sym leaf-own) (fine (source words items) rows good v lv))
+        go (inl z) = subst (λ (u : ℕ). Fine 65536 (new .own u)) (sym z) (subst (Fine 65536) (sym leaf-own) (fine (source words items sound) rows good v lv))
         go (inr n) = subst (Fine 65536) (sym (else-own u lu (apart n))) (good u lu)

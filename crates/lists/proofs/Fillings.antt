@@ -71,13 +71,13 @@ module _ (op k : ℕ) (items ends cells : List ℕ) (f n : ℕ) (is : n ≡ list
           inside = ends-inside items ends (a .cut);
         }
 
-    module _ (rows cells′ : List ℕ) (w : Walked) (l : Laid op k (length ends) ends (length ends) rows) (h : FillAll (source [] items) rows 0 f cells w cells′) where
+    module _ (rows cells′ : List ℕ) (w : Walked) (l : Laid op k (length ends) ends (length ends) rows) (h : FillAll (source [] items []) rows 0 f cells w cells′) where
       done : Filling (listAnswers op k items ends) f cells w cells′
       done =
           let g = fills in
           let good = laid-good op k items ends rows l (g .low) (g .high) (g .few) (g .inside) (g .order) in
           subst (λ (xs : List Stretch). Filling xs f cells w cells′)
-          (onward-all (listOver (source [] items) rows 0) (fine (source [] items) rows good 0 (omega arith) .rising) ∙ laid-answers op k items ends rows l (g .low) (g .high) (g .few) (g .inside))
+          (onward-all (listOver (source [] items []) rows 0) (fine (source [] items []) rows good 0 (omega arith) .rising) ∙ laid-answers op k items ends rows l (g .low) (g .high) (g .few) (g .inside))
           (h .fills good)
 
       pub fill-walked : record { number = 0; place = 0; count = w .count; more = w .more } ≡ fillResult op k items ends cells f

@@ -131,20 +131,20 @@ start-next ends i = let z : suc i ≡ i + 1 = omega arith in ap (startOf ends) z
 module _ (op k : ℕ) (items ends rows : List ℕ) (l : Laid op k (length ends) ends (length ends) rows) (lo : 1 ≤ op) (hi : op ≤ 6) (few : length ends ≤ 31)
     (inside : (j : ℕ) → getD ends j 0 ≤ length items) where
   -- list j stands at node 1 + j
-  own-list : (j : ℕ) → j < length ends → given (source [] items) rows .own (1 + j) ≡ getD (listsOf items ends) j []
+  own-list : (j : ℕ) → j < length ends → given (source [] items []) rows .own (1 + j) ≡ getD (listsOf items ends) j []
   own-list j h =
-      ap (λ (x : ℕ). ownList (source [] items) x (firstAt rows (1 + j)) (secondAt rows (1 + j))) (l .kinds j h)
+      ap (λ (x : ℕ). ownList (source [] items []) x (firstAt rows (1 + j)) (secondAt rows (1 + j))) (l .kinds j h)
       ∙ ap₂ (λ (x y : ℕ). lent items x y) (l .froms j h) (l .tos j h)
       ∙ ap (λ b. cond b (part items (startOf ends j) (getD ends j 0)) []) (le-leb (getD ends j 0) (length items) (inside j)) ∙ sym (lists-at items ends j)
 
-  own-root : given (source [] items) rows .own 0 ≡ []
+  own-root : given (source [] items []) rows .own 0 ≡ []
   own-root =
-      ap (λ (x : ℕ). ownList (source [] items) x (firstAt rows 0) (secondAt rows 0)) (l .kind)
+      ap (λ (x : ℕ). ownList (source [] items []) x (firstAt rows 0) (secondAt rows 0)) (l .kind)
       ∙ ap (λ b. cond b (marks 0 (row [] (firstAt rows 0) (secondAt rows 0))) (cond (eqb op 17) (lent items (firstAt rows 0) (secondAt rows 0)) [])) (ne-eqb op 16 (λ e. omega arith))
       ∙ ap (λ b. cond b (lent items (firstAt rows 0) (secondAt rows 0)) []) (ne-eqb op 17 (λ e. omega arith))
 
-  own-other : (v : ℕ) → length ends < v → v < 32 → given (source [] items) rows .own v ≡ []
-  own-other v h g = ap (λ (x : ℕ). ownList (source [] items) x (firstAt rows v) (secondAt rows v)) (l .others v h g)
+  own-other : (v : ℕ) → length ends < v → v < 32 → given (source [] items []) rows .own v ≡ []
+  own-other v h g = ap (λ (x : ℕ). ownList (source [] items []) x (firstAt rows v) (secondAt rows v)) (l .others v h g)
 
   fine-at : (ls : List (List Stretch)) → AllFine 65536 ls → (j : ℕ) → Fine 65536 (getD ls j [])
   fine-at [] f j = fine-none 65536
@@ -152,14 +152,14 @@ module _ (op k : ℕ) (items ends rows : List ℕ) (l : Laid op k (length ends) 
   fine-at (m ∷ ls) f (suc j) = fine-at ls (record { rising = f .rising .1; sound = f .sound .1; below = f .below .1 }) j
 
   -- lists in order are good
-  pub laid-good : AllFine 65536 (listsOf items ends) → Good (source [] items) rows
+  pub laid-good : AllFine 65536 (listsOf items ends) → Good (source [] items []) rows
   laid-good f v h = go v h (le-or-lt v (length ends))
     where
-      go : (v : ℕ) → v < 32 → (v ≤ length ends) ⊎ (length ends < v) → Fine 65536 (given (source [] items) rows .own v)
+      go : (v : ℕ) → v < 32 → (v ≤ length ends) ⊎ (length ends < v) → Fine 65536 (given (source [] items []) rows .own v)
       go zero h w = subst (Fine 65536) (sym own-root) (fine-none 65536)
       go (suc j) h (inl g) =
           let z : 1 + j ≡ suc j = omega arith in
-          subst (λ (m : ℕ). Fine 65536 (given (source [] items) rows .own m)) z (subst (Fine 65536) (sym (own-list j (omega arith))) (fine-at (listsOf items ends) f j))
+          subst (λ (m : ℕ). Fine 65536 (given (source [] items []) rows .own m)) z (subst (Fine 65536) (sym (own-list j (omega arith))) (fine-at (listsOf items ends) f j))
       go (suc j) h (inr g) = subst (Fine 65536) (sym (own-other (suc j) g h)) (fine-none 65536)
 
   stop-at : stopOf rows 0 ≡ length ends + 1
@@ -168,27 +168,27 @@ module _ (op k : ℕ) (items ends rows : List ℕ) (l : Laid op k (length ends) 
   next-at : (j : ℕ) → j < length ends → nextOf rows (1 + j) ≡ 1 + (j + 1)
   next-at j h = next-is rows (1 + j) 1 (omega (arith, l .sizes j h)) (omega arith) (omega (arith, l .size)) ∙ omega arith
 
-  leaf-list : (j : ℕ) → j < length ends → listOver (source [] items) rows (1 + j) ≡ part items (startOf ends j) (getD ends j 0)
+  leaf-list : (j : ℕ) → j < length ends → listOver (source [] items []) rows (1 + j) ≡ part items (startOf ends j) (getD ends j 0)
   leaf-list j h =
-      list-node (given (source [] items) rows) rows (1 + j) (omega arith)
-      ∙ ap (λ (x : ℕ). apply (operatorOf lengthOf x (firstAt rows (1 + j))) (given (source [] items) rows .own (1 + j)) (operandsOf (given (source [] items) rows) rows (1 + j))) (l .kinds j h)
+      list-node (given (source [] items []) rows) rows (1 + j) (omega arith)
+      ∙ ap (λ (x : ℕ). apply (operatorOf lengthOf x (firstAt rows (1 + j))) (given (source [] items []) rows .own (1 + j)) (operandsOf (given (source [] items []) rows) rows (1 + j))) (l .kinds j h)
       ∙ own-list j h ∙ lists-at items ends j
 
   -- the operands are the lists, from list j on
-  leaves : (n j : ℕ) → j + n ≡ length ends → operandsFrom (given (source [] items) rows) rows (length ends + 1) (1 + j) ≡ listsFrom (startOf ends j) items (drop j ends)
+  leaves : (n j : ℕ) → j + n ≡ length ends → operandsFrom (given (source [] items []) rows) rows (length ends + 1) (1 + j) ≡ listsFrom (startOf ends j) items (drop j ends)
   leaves zero j e =
-      from-end (given (source [] items) rows) rows (length ends + 1) (1 + j) (omega arith) ∙ sym (ap (listsFrom (startOf ends j) items) (drop-of-length-le ends {i = j} (omega arith)))
+      from-end (given (source [] items []) rows) rows (length ends + 1) (1 + j) (omega arith) ∙ sym (ap (listsFrom (startOf ends j) items) (drop-of-length-le ends {i = j} (omega arith)))
   leaves (suc n) j e =
-      from-more (given (source [] items) rows) rows (length ends + 1) (1 + j) (omega arith) (omega arith)
+      from-more (given (source [] items []) rows) rows (length ends + 1) (1 + j) (omega arith) (omega arith)
       ∙ ap₂ (λ (a : List Stretch) (b : List (List Stretch)). a ∷ b) (leaf-list j (omega arith))
-      (ap (operandsFrom (given (source [] items) rows) rows (length ends + 1)) (next-at j (omega arith)) ∙ leaves n (j + 1) (omega arith) ∙ ap (λ (x : ℕ). listsFrom x items (drop (j + 1) ends)) (sym (start-next ends j)))
+      (ap (operandsFrom (given (source [] items []) rows) rows (length ends + 1)) (next-at j (omega arith)) ∙ leaves n (j + 1) (omega arith) ∙ ap (λ (x : ℕ). listsFrom x items (drop (j + 1) ends)) (sym (start-next ends j)))
       ∙ sym (ap (listsFrom (startOf ends j) items) (open-at ends j (omega arith)))
 
   -- its list is the operator's answers over the lent lists
-  pub laid-answers : listOver (source [] items) rows 0 ≡ listAnswers op k items ends
+  pub laid-answers : listOver (source [] items []) rows 0 ≡ listAnswers op k items ends
   laid-answers =
       let z : 0 + 1 ≡ 1 + 0 = omega arith in
-      list-node (given (source [] items) rows) rows 0 (omega arith)
-      ∙ ap₂ (λ (x y : ℕ). apply (operatorOf lengthOf x y) (given (source [] items) rows .own 0) (operandsOf (given (source [] items) rows) rows 0)) (l .kind) (l .bound)
+      list-node (given (source [] items []) rows) rows 0 (omega arith)
+      ∙ ap₂ (λ (x y : ℕ). apply (operatorOf lengthOf x y) (given (source [] items []) rows .own 0) (operandsOf (given (source [] items []) rows) rows 0)) (l .kind) (l .bound)
       ∙ ap₂ (λ (x : List Stretch) (y : List (List Stretch)). apply (operatorOf lengthOf op k) x y) own-root
-      (ap₂ (operandsFrom (given (source [] items) rows) rows) stop-at z ∙ leaves (length ends) 0 (omega arith))
+      (ap₂ (operandsFrom (given (source [] items []) rows) rows) stop-at z ∙ leaves (length ends) 0 (omega arith))

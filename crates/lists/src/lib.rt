@@ -24,7 +24,8 @@ pub fn fill(op: u32, k: u32, items: &[u32], ends: &[u32], cells: &mut [u32], fro
     }
     let rows = table(wide(op), wide(k), ends);
     let words = [0u64; 1];
-    let w = walk::fill(&rows, &words[..0], items, cells, 0, from);
+    let sound = [0u64; 1];
+    let w = walk::fill(&rows, &words[..0], items, &sound[..0], cells, 0, from);
     Filled {
         number: 0,
         place: 0,

@@ -34,7 +34,7 @@ module _ (b : Bool) (words : List ℕ) (at width p : ℕ) where
       (true-and (lies (length words) at width) (ltb p (64 * width)) h (lt-ltb p (64 * width) (omega arith))))
 
 -- the word with one bit alone
-alone : (k : ℕ) → k < 64 → (1 * 2 ^ k) % 2 ^ 64 ≡ 2 ^ k
+pub alone : (k : ℕ) → k < 64 → (1 * 2 ^ k) % 2 ^ 64 ≡ 2 ^ k
 alone k h = ap (λ (x : ℕ). x % 2 ^ 64) (one-mul (2 ^ k)) ∙ mod-eq-of-lt (pow-lt h)
 
 module _ (words : List ℕ) (at width p : ℕ) (h : lies (length words) at width ≡ true) (l : p < 64 * width) (f : getD words (at + p / 64) 0 < 2 ^ 64) where

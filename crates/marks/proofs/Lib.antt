@@ -8,3 +8,5 @@ pub mod Changes
 pub mod Changing
 pub mod United
 pub mod Packing
+pub mod Turned
+pub mod Counts

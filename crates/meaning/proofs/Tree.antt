@@ -1,10 +1,11 @@
 -- Laws of a pattern's list, by its tree: it rises, is sound and lies below the lines; and the undamaged run, for every pattern over lists of lines.
 -- Each is the operators' law, taken through the tree. Assumes nothing.
-use Prim.Native.Nat.{ℕ, _+_, _≤_, _<_}
+use Prim.Native.Nat.{ℕ, suc, _+_, _≤_, _<_}
 use mathlib.Core.Path.{_≡_, sym, ap, subst, subst₂, _∙_}
 use mathlib.Core.Bool.{Bool}
 use mathlib.Core.List.{List, _++_, map, map-append}
-use lib.ListN.{length, length-map}
+use lib.ListN.{length, take, drop, length-map}
+use lib.Seq.{take-append-add, drop-append-add, take-append-le}
 use native.Mathlib.Omega.{arith}
 use Rattle.stretches.specs.Stretch.{Stretch, st, Fine, marks}
 use Rattle.stretches.specs.Run.{inRun}
@@ -16,9 +17,10 @@ use Rattle.stretches.proofs.InRun.{window-cut}
 use Rattle.stretches.proofs.Marks.{window-marks}
 use Rattle.stretches.proofs.Steps.{rising-length}
 use Rattle.records.specs.declared.Line.{Line}
+use Rattle.records.specs.Line.{soundLines}
 use Rattle.pattern.specs.Kinds.{Symbol, Ev, Fr, Or, And, Row, Then, Less, Max}
 use Rattle.pattern.specs.Pattern.{Pattern, Patterns, Node, Nil, Cons}
-use Rattle.meaning.specs.Meaning.{Valuation, matches, operator, eval, evals, overLines, answersOf}
+use Rattle.meaning.specs.Meaning.{Valuation, matches, operator, eval, evals, measureIn, overLines, answersOf}
 
 -- ── Every list of a pattern rises, is sound and ends below n, where the leaves' lists do ──
 
@@ -70,6 +72,13 @@ module _ (r n : ℕ) (v v′ : Valuation) (b b′ : ℕ)
     windows-evals Nil = tt
     windows-evals (Cons p ps) = (window-eval p, windows-evals ps)
 
+-- what a stretch within a run measures depends on the run alone
+measure-run : (xs run zs : List Line) (s e : ℕ) → e < length run → measureIn (xs ++ (run ++ zs)) (st (length xs + s) (length xs + e)) ≡ measureIn run (st s e)
+measure-run xs run zs s e h =
+    let z : suc (length xs + e) ≡ length xs + suc e = omega arith in
+    ap soundLines (ap (λ (n : ℕ). drop (length xs + s) (take n (xs ++ (run ++ zs)))) z ∙ ap (drop (length xs + s)) (take-append-add xs (run ++ zs) (suc e))
+    ∙ drop-append-add xs (take (suc e) (run ++ zs)) s ∙ ap (drop s) (take-append-le (suc e) run zs (omega arith)))
+
 -- demand 3 over lists of lines: whatever precedes and follows a run, the answers wholly within it, counted from its first line, are those of the run alone
 pub run-lines : (p : Pattern) (xs run zs : List Line) → inRun (length xs) (length run) (answersOf p (xs ++ (run ++ zs))) ≡ answersOf p run
 run-lines p xs run zs =
@@ -77,7 +86,7 @@ run-lines p xs run zs =
     let g = fine-answersOf p run in
     window-cut (length xs) (length run) (answersOf p (xs ++ (run ++ zs))) (answersOf p run) (f .rising) (f .sound) (g .rising) (g .below)
     (window-eval (length xs) (length run) (overLines (xs ++ (run ++ zs))) (overLines run) (length (xs ++ (run ++ zs))) (length run)
-    (fine-leaf (xs ++ (run ++ zs))) (fine-leaf run) window (λ s e h. omega arith) p)
+    (fine-leaf (xs ++ (run ++ zs))) (fine-leaf run) window (measure-run xs run zs) p)
   where
     flags : (h : Symbol) → map (matches h) (xs ++ (run ++ zs)) ≡ map (matches h) xs ++ (map (matches h) run ++ map (matches h) zs)
     flags h = map-append (matches h) xs (run ++ zs) ∙ ap (λ (t : List Bool). map (matches h) xs ++ t) (map-append (matches h) run zs)

@@ -1,17 +1,20 @@
 -- What a pattern answers in a log: docs/FORMATS.md, "The pattern" and "What the operators mean".
 -- Assumes nothing.
-use Prim.Native.Nat.{ℕ}
+use Prim.Native.Nat.{ℕ, suc}
 use mathlib.Core.Path.{_≡_, refl}
 use mathlib.Core.Bool.{Bool, false, cond}
 use mathlib.Core.List.{List, [], _∷_, map}
 use mathlib.Core.Option.{Option, none, some}
+use lib.ListN.{take, drop}
 use lib.Dec.{eqb}
 use Rattle.stretches.specs.Stretch as s
-use Rattle.stretches.specs.Stretch.{Stretch, Op, marks, lengthOf}
+use Rattle.stretches.specs.Stretch.{Stretch, st, Op, marks}
 use Rattle.stretches.specs.Operators.{operatorOf, apply}
 use Rattle.stretches.specs.Table.{kindAt, firstAt, secondAt, Given, listAt}
+use Rattle.records.specs.declared.Record.{Record}
 use Rattle.records.specs.declared.Line.{Line}
-use Rattle.records.specs.Line.{says}
+use Rattle.records.specs.declared.Line.the-variants.{Damaged, Sound}
+use Rattle.records.specs.Line.{says, soundLines}
 use Rattle.records.specs.Leaf.{codeIs, frameIs}
 use Rattle.pattern.specs.Kinds.{Symbol, Ev, Fr, Or, And, Row, Then, Less, Max, kindOf, firstOf, secondOf}
 use Rattle.pattern.specs.Pattern.{Pattern, Patterns, Node, Nil, Cons}
@@ -52,9 +55,17 @@ abbrev mutual
   evals v Nil = []
   evals v (Cons p ps) = eval v p ∷ evals v ps
 
--- what `max` measures in these lines: the length in lines
+-- the lines from start through end
+abbrev pub linesOf : List Line → Stretch → List Line
+linesOf ls x = drop (x .start) (take (suc (x .end)) ls)
+
+-- what `max` measures in these lines: the number of sound ones from start through end
 abbrev pub measureIn : List Line → Stretch → ℕ
-measureIn ls x = lengthOf x
+measureIn ls x = soundLines (linesOf ls x)
+
+-- lines 1 and 2 of four are damaged: [0..3] holds two sound lines, [1..2] none
+ex-measure : (r : Record) → map (measureIn (Sound r ∷ Damaged ∷ Damaged ∷ Sound r ∷ [])) (st 0 3 ∷ st 0 2 ∷ st 1 2 ∷ st 3 3 ∷ []) ≡ 2 ∷ 1 ∷ 0 ∷ 1 ∷ []
+ex-measure r = refl
 
 -- over lines: a leaf has [p..p] for each matching line p
 abbrev pub overLines : List Line → Valuation

@@ -5,7 +5,9 @@ use basics::shorter;
 use meaning::Reply;
 use nodes::TABLE;
 use plan::FEW;
+use plan::FEW_SOUND;
 use plan::FEW_WORDS;
+use plan::SOUND;
 use plan::WORDS;
 use seek::Front;
 use seek::NONE;
@@ -93,11 +95,12 @@ fn shortest_left(
     rows: &[usize; TABLE],
     words: &[u64],
     items: &[u32],
+    sound: &[u64],
     cells: &[u32],
     n: usize,
 ) -> Front
-    requires { ⌜ Good (source (now words) (now items)) (now rows) × (2 * n ≤ length (now cells)) × Lying (heldIn (now cells) n) ⌝ }
-    ensures { λ r. ⌜ r ≡ front (shortestOf (remaining (heldIn (now (cells .entry)) n) (listOver (source (now (words .entry)) (now (items .entry))) (now (rows .entry)) 0))) ⌝ }
+    requires { ⌜ Good (source (now words) (now items) (now sound)) (now rows) × (2 * n ≤ length (now cells)) × Lying (heldIn (now cells) n) ⌝ }
+    ensures { λ r. ⌜ r ≡ front (shortestOf (remaining (heldIn (now (cells .entry)) n) (listOver (source (now (words .entry)) (now (items .entry)) (now (sound .entry))) (now (rows .entry)) 0))) ⌝ }
 {
     let mut st = [0u32; STATE];
     let mut best = Front {
@@ -107,7 +110,7 @@ fn shortest_left(
     let mut next = next_pick(cells, n, 0);
     let mut t: u32 = 0;
     while t < NONE {
-        let f = seek::first(rows, words, items, &mut st, 0, t);
+        let f = seek::first(rows, words, items, sound, &mut st, 0, t);
         if NONE <= f.start {
             return best;
         }
@@ -127,16 +130,17 @@ fn pick_all(
     rows: &[usize; TABLE],
     words: &[u64],
     items: &[u32],
+    sound: &[u64],
     k: usize,
     cells: &mut [u32],
 ) -> usize
-    requires { ⌜ Good (source (now words) (now items)) (now rows) ⌝ }
-    ensures { λ r. ⌜ Wrote k (listOver (source (now (words .entry)) (now (items .entry))) (now (rows .entry)) 0) (now (cells .entry)) r (now (cells .exit)) ⌝ }
+    requires { ⌜ Good (source (now words) (now items) (now sound)) (now rows) ⌝ }
+    ensures { λ r. ⌜ Wrote k (listOver (source (now (words .entry)) (now (items .entry)) (now (sound .entry))) (now (rows .entry)) 0) (now (cells .entry)) r (now (cells .exit)) ⌝ }
 {
     let most = shorter(k, cells.len() / 2);
     let mut n: usize = 0;
     while n < most {
-        let f = shortest_left(rows, words, items, cells, n);
+        let f = shortest_left(rows, words, items, sound, cells, n);
         if NONE <= f.start {
             return n;
         }
@@ -155,33 +159,37 @@ fn pick_with(
     log: &[u8],
     width: usize,
     words: &mut [u64],
+    sound: &mut [u64],
     k: usize,
     cells: &mut [u32],
 ) -> usize
-    requires { ⌜ Roomy (now rows) (now log) width (now words) ⌝ }
+    requires { ⌜ Roomy (now rows) (now log) width (now words) (now sound) ⌝ }
     ensures { λ r. ⌜ Wrote k (tableIn (now (rows .entry)) (now (log .entry))) (now (cells .entry)) r (now (cells .exit)) ⌝ }
 {
-    let table = plan::prepare(rows, log, width, words);
+    let n = plan::sound_words(rows, width);
+    let table = plan::prepare(rows, log, width, words, &mut sound[..n]);
     let items = [0u32; 1];
-    pick_all(&table, words, &items[..0], k, cells)
+    pick_all(&table, words, &items[..0], &sound[..n], k, cells)
 }
 
-// In a log of few lines: 32 KiB of words.
+// In a log of few lines: 32 KiB of words, and 2 for the sound lines.
 fn pick_small(rows: &[usize; TABLE], log: &[u8], width: usize, k: usize, cells: &mut [u32]) -> usize
     requires { ⌜ (length (now rows) ≡ 160) × (width ≡ widthOf (now log)) × (width ≤ 128) ⌝ }
     ensures { λ r. ⌜ Wrote k (tableIn (now (rows .entry)) (now (log .entry))) (now (cells .entry)) r (now (cells .exit)) ⌝ }
 {
     let mut words = [0u64; FEW_WORDS];
-    pick_with(rows, log, width, &mut words[..], k, cells)
+    let mut sound = [0u64; FEW_SOUND];
+    pick_with(rows, log, width, &mut words[..], &mut sound[..], k, cells)
 }
 
-// In one of any number of lines: 240 KiB of words.
+// In one of any number of lines: 240 KiB of words, and 15 for the sound lines.
 fn pick_large(rows: &[usize; TABLE], log: &[u8], width: usize, k: usize, cells: &mut [u32]) -> usize
     requires { ⌜ (length (now rows) ≡ 160) × (width ≡ widthOf (now log)) × (width ≤ 960) ⌝ }
     ensures { λ r. ⌜ Wrote k (tableIn (now (rows .entry)) (now (log .entry))) (now (cells .entry)) r (now (cells .exit)) ⌝ }
 {
     let mut words = [0u64; WORDS];
-    pick_with(rows, log, width, &mut words[..], k, cells)
+    let mut sound = [0u64; SOUND];
+    pick_with(rows, log, width, &mut words[..], &mut sound[..], k, cells)
 }
 
 // In any log that is not too long.

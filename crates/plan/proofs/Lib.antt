@@ -1,2 +1,3 @@
 -- The laws of the table over the rows.
+mod Measured
 pub mod Planning

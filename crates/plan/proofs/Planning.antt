@@ -7,37 +7,40 @@ use mathlib.Core.List.{List, [], _∷_, _++_, map, append-assoc}
 use native.Mathlib.Omega.{arith}
 use native.Mathlib.Nat.{suc-mul, mul-le-mul-right, zero-add}
 use lib.ListN.{length, getD, take, drop, replicate, length-map}
-use lib.Seq.{take-at, drop-at, drop-drop}
+use lib.Seq.{take-at, drop-at, drop-drop, length-take-le}
 use lib.Dec.{leb, eqb}
 use borrow.Author.Tests.{le-leb, lt-ltb, leb-true, eqb-true, eqb-false, not-true, not-false}
 use Rattle.basics.proofs.Basics.{cases, true-or-false, true-and, and-true, or-true, or-false, le-or-lt}
 use Rattle.stretches.specs.Stretch.{Stretch, st, Fine, marks}
 use Rattle.stretches.specs.Operators.{operatorOf, apply}
-use Rattle.stretches.specs.Table.{kindAt, sizeAt, firstAt, secondAt, leafKind, Given, listAt}
+use Rattle.stretches.specs.Table.{kindAt, sizeAt, firstAt, secondAt, leafKind, stopOf, Given, listAt}
 use Rattle.stretches.specs.inner.Operands.{operandsOf}
 use Rattle.stretches.proofs.Fine.{fine-marks}
 use Rattle.stretches.proofs.Marks.{marks-clear}
-use Rattle.stretches.proofs.Table.{list-node, same-lists}
+use Rattle.stretches.proofs.Measures.{Measures, measure-same}
+use Rattle.stretches.proofs.Table.{list-node, all-operands, same-lists}
 use Rattle.marks.specs.Row.{flags, lies, row, packed, fit}
 use Rattle.marks.proofs.Rows.{true-lies, row-words}
 use Rattle.marks.proofs.Packed.{length-packed, flags-packed-short}
 use Rattle.records.specs.declared.Line.{Line}
 use Rattle.records.specs.Line.{says}
 use Rattle.records.specs.Leaf.{codeIs, frameIs}
-use Rattle.meaning.specs.Meaning.{hits, overTable, tableIn}
+use Rattle.meaning.specs.Meaning.{hits, measureIn, overTable, tableIn}
 use Rattle.meaning.proofs.Run.{says-few}
 use Rattle.meaning.proofs.Table.{table-in}
-use Rattle.seek.specs.Source.{source, lent, ownList, given, listOver, Good}
+use Rattle.seek.specs.Source.{Source, source, lent, ownList, measuredBy, given, listOver, Good}
 use Rattle.folding.specs.Fold.{Folding, folding, withLeaf, folded}
 use Rattle.seek.proofs.Nodes.{no-operator}
 use Rattle.folding.proofs.FoldLeaf.{Before, leaf-wide, leaf-kind, leaf-first, leaf-second, leaf-size, else-kind, else-first, else-second}
-use Rattle.folding.proofs.FoldLaws.{fold-lists, fold-good}
+use Rattle.folding.proofs.FoldLaws.{Single, fold-lists, fold-good}
 use Rattle.leaves.specs.Leaves.{held, numberIn, Gathered, are, leavesOf}
-use Rattle.marking.specs.Rows.{leafHits, rowsFrom, rowsThen, marked}
-use Rattle.plan.specs.Plan.{widthOf, planNode, plannedTo, planned, prepared}
+use Rattle.marking.specs.Rows.{leafHits, rowsFrom, rowsThen, marked, soundMarked}
+use Rattle.plan.specs.Plan.{widthOf, planNode, plannedTo, planned, soundWords, prepared, preparedSound}
 use Rattle.plan.specs.inner.Room.{Roomy}
 use Rattle.leaves.proofs.Gathering.{leaf-few, leaf-found, leaf-is}
 use Rattle.marking.proofs.Marking.{then-length}
+use Rattle.marking.proofs.SoundRow.{sound-length}
+use Rattle.plan.proofs.Measured.{sound-single, sound-measures}
 
 -- ── The planned table ──
 
@@ -131,7 +134,8 @@ leaf-high k h = by (or-true (eqb k 16) (eqb k 17) h)
 
 -- over n leaves among which all of the table's are found
 module _ (rows leaves : List ℕ) (n : ℕ) (ls : List Line) (w : ℕ) (words : List ℕ) (wide : length rows ≡ 160) (narrow : w ≤ 1024) (lines : length ls ≤ 64 * w) (enough : n * w ≤ length words)
-    (found : (v : ℕ) → v < 32 → leafKind (kindAt rows v) ≡ true → numberIn leaves n (kindAt rows v) (firstAt rows v) (secondAt rows v) < n) where
+    (found : (v : ℕ) → v < 32 → leafKind (kindAt rows v) ≡ true → numberIn leaves n (kindAt rows v) (firstAt rows v) (secondAt rows v) < n)
+    (sound : List ℕ) (single : Single sound) (measures : (v : ℕ) → v < 32 → kindAt rows v ≡ 6 → Measures (length ls) (measuredBy sound) (measureIn ls)) where
   abbrev t : List ℕ
   t = planned leaves n w rows
 
@@ -145,7 +149,13 @@ module _ (rows leaves : List ℕ) (n : ℕ) (ls : List Line) (w : ℕ) (words : 
   old = overTable rows ls
 
   abbrev new : Given
-  new = given (source marked-words []) t
+  new = given (source marked-words [] sound) t
+
+  -- own lists end at the last line, and so do all
+  old-own : (v : ℕ) → Fine (length ls) (old .own v)
+  old-own v =
+      let hit = hits (kindAt rows v) (firstAt rows v) (secondAt rows v) in
+      subst (λ (m : ℕ). Fine m (marks 0 (map hit ls))) (length-map ls hit) (fine-marks (map hit ls))
 
   module _ (v : ℕ) (lv : v < 32) where
     abbrev k : ℕ
@@ -186,7 +196,7 @@ module _ (rows leaves : List ℕ) (n : ℕ) (ls : List Line) (w : ℕ) (words : 
           ∙ ap₂ (λ (x y : ℕ). marks 0 (map (hits x y (getD leaves (128 + r) 0)) ls)) (numbers .0) (numbers .1) ∙ ap (λ (z : ℕ). marks 0 (map (hits k a z) ls)) (numbers .2)
 
       leaf-own : new .own v ≡ old .own v
-      leaf-own = ap (λ (x : Node). ownList (source marked-words []) (x .kind) (x .first) (x .second)) node ∙ leaf-row
+      leaf-own = ap (λ (x : Node). ownList (source marked-words [] sound) (x .kind) (x .first) (x .second)) node ∙ leaf-row
 
       leaf-list : apply (operatorOf (new .measure) (kindAt t v) (firstAt t v)) (new .own v) (operandsOf old rows v) ≡ listAt old rows v
       leaf-list =
@@ -201,14 +211,17 @@ module _ (rows leaves : List ℕ) (n : ℕ) (ls : List Line) (w : ℕ) (words : 
       other-own : new .own v ≡ old .own v
       other-own =
           let no = or-false (eqb k 16) (eqb k 17) h in
-          ap (λ (x : Node). ownList (source marked-words []) (x .kind) (x .first) (x .second)) node-other
+          ap (λ (x : Node). ownList (source marked-words [] sound) (x .kind) (x .first) (x .second)) node-other
           ∙ ap₂ (λ x y. cond x (marks 0 (row marked-words a b)) (cond y (lent [] a b) [])) (no .0) (no .1)
           ∙ sym (no-lines (hits k a b) (λ x. ap₂ (λ y z. cond y (codeIs a b x) (cond z (frameIs a b x) false)) (no .0) (no .1)) 0 ls)
 
       other-list : apply (operatorOf (new .measure) (kindAt t v) (firstAt t v)) (new .own v) (operandsOf old rows v) ≡ listAt old rows v
       other-list =
           ap (λ (x : Node). apply (operatorOf (new .measure) (x .kind) (x .first)) (new .own v) (operandsOf old rows v)) node-other
-          ∙ ap (λ (l : List Stretch). apply (operatorOf (new .measure) k a) l (operandsOf old rows v)) other-own ∙ sym (list-node old rows v lv)
+          ∙ ap (λ (l : List Stretch). apply (operatorOf (new .measure) k a) l (operandsOf old rows v)) other-own
+          ∙ measure-same (length ls) (new .measure) (old .measure) a k (old .own v) (operandsOf old rows v)
+          (all-operands old rows (length ls) (λ u lu. old-own u) (stopOf rows v) (v + 1)) (measures v lv)
+          ∙ sym (list-node old rows v lv)
 
     own-same : new .own v ≡ old .own v
     own-same = by (true-or-false (leafKind k))
@@ -241,9 +254,8 @@ module _ (rows leaves : List ℕ) (n : ℕ) (ls : List Line) (w : ℕ) (words : 
 
     fine-own : Fine 65536 (new .own v)
     fine-own =
-        let bs = map (hits k a b) ls in
-        let f = fine-marks bs in
-        subst (Fine 65536) (sym own-same) (record { rising = f .rising; sound = f .sound; below = λ s e m. omega (arith, f .below s e m, length-map ls (hits k a b)) })
+        let f = old-own v in
+        subst (Fine 65536) (sym own-same) (record { rising = f .rising; sound = f .sound; below = λ s e m. omega (arith, f .below s e m) })
 
   before : Before t (n * w)
   before = record { wide = plan .wide; ends = row-ends }
@@ -251,50 +263,85 @@ module _ (rows leaves : List ℕ) (n : ℕ) (ls : List Line) (w : ℕ) (words : 
   abbrev made : Folding
   made = folded w 32 (folding t marked-words (n * w))
 
-  made-lists : (v : ℕ) → listOver (source (made .words) []) (made .rows) v ≡ listAt old rows v
-  made-lists v = fold-lists [] w (folding t marked-words (n * w)) before 32 v ∙ same-lists old new rows t size-same list-same v
+  made-lists : (v : ℕ) → listOver (source (made .words) [] sound) (made .rows) v ≡ listAt old rows v
+  made-lists v = fold-lists [] sound single w (folding t marked-words (n * w)) before 32 v ∙ same-lists old new rows t size-same list-same v
 
-  made-good : Good (source (made .words) []) (made .rows)
-  made-good = fold-good [] w (folding t marked-words (n * w)) before 32 fine-own
+  made-good : Good (source (made .words) [] sound) (made .rows)
+  made-good = fold-good [] sound single w (folding t marked-words (n * w)) before 32 fine-own
 
 -- 32 rows are room enough for every table
-pub room-enough : (rows : List ℕ) (w len : ℕ) → 32 * w ≤ len → leavesOf rows .count * w ≤ len
+room-enough : (rows : List ℕ) (w len : ℕ) → 32 * w ≤ len → leavesOf rows .count * w ≤ len
 room-enough rows w len h = omega (arith, mul-le-mul-right w (leaf-few rows))
 
-module _ (rows log : List ℕ) (w : ℕ) (words : List ℕ) (wide : length rows ≡ 160) (narrow : w ≤ 1024) (lines : length (says log) ≤ 64 * w) (room : leavesOf rows .count * w ≤ length words) where
+module _ (rows log : List ℕ) (w : ℕ) (words sound : List ℕ) (wide : length rows ≡ 160) (narrow : w ≤ 1024) (lines : length (says log) ≤ 64 * w) (room : leavesOf rows .count * w ≤ length words)
+    (fits : length sound ≡ soundWords rows w) where
   abbrev g : Gathered
   g = leavesOf rows
 
-  is-made : prepared rows log w words ≡ made rows (g .leaves) (g .count) (says log) w words wide narrow lines room (leaf-found rows)
+  abbrev sound′ : List ℕ
+  sound′ = soundMarked (says log) sound
+
+  single : Single sound′
+  single = sound-single rows (says log) w sound narrow lines fits
+
+  measures : (v : ℕ) → v < 32 → kindAt rows v ≡ 6 → Measures (length (says log)) (measuredBy sound′) (measureIn (says log))
+  measures = sound-measures rows (says log) w sound narrow lines fits
+
+  enough : fit (g .count) w (length words) ≡ true
+  enough = true-and (leb w 1024) (leb (g .count * w) (length words)) (le-leb w 1024 narrow) (le-leb (g .count * w) (length words) room)
+
+  is-made : prepared rows log w words ≡ made rows (g .leaves) (g .count) (says log) w words wide narrow lines room (leaf-found rows) sound′ single measures
   unfolding prepared
   is-made =
       let n = g .count in
-      let f : fit n w (length words) ≡ true = true-and (leb w 1024) (leb (n * w) (length words)) (le-leb w 1024 narrow) (le-leb (n * w) (length words) room) in
       let small : held n ≡ n = ap (λ b. cond b n 64) (lt-ltb n 64 (omega (arith, leaf-few rows))) in
       let fold : List ℕ → Folding = λ l. folded w 32 (folding (planned (g .leaves) n w rows) l (n * w)) in
-      ap (λ b. cond b (fold (marked (g .leaves) n (says log) w words)) (folding (replicate 160 0) words 0)) f
-      ∙ ap fold (ap (λ (i : ℕ). cond (fit i w (length words)) (rowsThen (g .leaves) i (says log) w words) words) small ∙ ap (λ b. cond b (rowsThen (g .leaves) n (says log) w words) words) f)
+      ap (λ b. cond b (fold (marked (g .leaves) n (says log) w words)) (folding (replicate 160 0) words 0)) enough
+      ∙ ap fold (ap (λ (i : ℕ). cond (fit i w (length words)) (rowsThen (g .leaves) i (says log) w words) words) small ∙ ap (λ b. cond b (rowsThen (g .leaves) n (says log) w words) words) enough)
+
+  sound-made : preparedSound rows log w words sound ≡ sound′
+  unfolding preparedSound
+  sound-made = ap (λ b. cond b sound′ sound) enough
 
   -- the lists of the machine's table are those of the pattern's
-  pub prepared-lists : (v : ℕ) → listOver (source (prepared rows log w words .words) []) (prepared rows log w words .rows) v ≡ listAt (overTable rows (says log)) rows v
+  prepared-lists : (v : ℕ) → listOver (source (prepared rows log w words .words) [] sound′) (prepared rows log w words .rows) v ≡ listAt (overTable rows (says log)) rows v
   prepared-lists v =
-      ap (λ (f : Folding). listOver (source (f .words) []) (f .rows) v) is-made ∙ made-lists rows (g .leaves) (g .count) (says log) w words wide narrow lines room (leaf-found rows) v
+      ap (λ (f : Folding). listOver (source (f .words) [] sound′) (f .rows) v) is-made
+      ∙ made-lists rows (g .leaves) (g .count) (says log) w words wide narrow lines room (leaf-found rows) sound′ single measures v
 
   -- and fine
-  pub prepared-good : Good (source (prepared rows log w words .words) []) (prepared rows log w words .rows)
+  prepared-good : Good (source (prepared rows log w words .words) [] sound′) (prepared rows log w words .rows)
   prepared-good =
-      subst (λ (f : Folding). Good (source (f .words) []) (f .rows)) (sym is-made) (made-good rows (g .leaves) (g .count) (says log) w words wide narrow lines room (leaf-found rows))
+      subst (λ (f : Folding). Good (source (f .words) [] sound′) (f .rows)) (sym is-made)
+      (made-good rows (g .leaves) (g .count) (says log) w words wide narrow lines room (leaf-found rows) sound′ single measures)
 
 -- in words with room the machine's table is fine, and its list is the one that the pattern's table has in the log
-pub machine-list : (rows log : List ℕ) (w : ℕ) (words t words′ : List ℕ) → Roomy rows log w words → t ≡ prepared rows log w words .rows → words′ ≡ prepared rows log w words .words
-    → Good (source words′ []) t × (listOver (source words′ []) t 0 ≡ tableIn rows log)
-machine-list rows log w words t words′ h et ew =
-    let lines : length (says log) ≤ 64 * w = omega (arith, h .1) in
-    let narrow : w ≤ 1024 = omega (arith, h .2) in
-    let room = room-enough rows w (length words) (h .3) in (
-      subst (λ (x : List ℕ). Good (source x []) t) (sym ew) (subst (Good (source (prepared rows log w words .words) [])) (sym et) (prepared-good rows log w words (h .0) narrow lines room)),
-      ap₂ (λ (x y : List ℕ). listOver (source x []) y 0) ew et ∙ prepared-lists rows log w words (h .0) narrow lines room 0 ∙ sym (table-in rows log),
-    )
+module _ (rows log : List ℕ) (w : ℕ) (words sound : List ℕ) (h : Roomy rows log w words sound) where
+  -- the words that are lent to the row of the sound lines
+  pub sound-room : (n : ℕ) → (n ≡ soundWords rows w) × (n ≤ w + w) → (n ≤ length sound) × (length (take n sound) ≡ soundWords rows w)
+  sound-room n e = (omega (arith, e .1, h .4), length-take-le n sound (omega (arith, e .1, h .4)) ∙ e .0)
+
+  -- and what the machine reads of them afterwards
+  pub sound-again : (n : ℕ) → (n ≡ soundWords rows w) × (n ≤ w + w) → (kept : List ℕ) → kept ≡ preparedSound rows log w words (take n sound)
+      → (n ≡ length (take n (kept ++ drop n sound))) × (take n (kept ++ drop n sound) ≡ preparedSound rows log w words (take n sound))
+  unfolding preparedSound
+  sound-again n e kept k =
+      let long : length kept ≡ n = ap length k ∙ cases (fit (leavesOf rows .count) w (length words)) (λ b. length (cond b (soundMarked (says log) (take n sound)) (take n sound)) ≡ length (take n sound))
+      (λ _. sound-length (says log) (take n sound)) (λ _. refl) ∙ length-take-le n sound (sound-room n e .0) in
+      let z = take-at kept (drop n sound) n long in
+      (sym (ap length z ∙ long), z ∙ k)
+
+  pub machine-list : (kept t words′ kept′ : List ℕ) → length kept ≡ soundWords rows w → t ≡ prepared rows log w words .rows → words′ ≡ prepared rows log w words .words
+      → kept′ ≡ preparedSound rows log w words kept → Good (source words′ [] kept′) t × (listOver (source words′ [] kept′) t 0 ≡ tableIn rows log)
+  machine-list kept t words′ kept′ fits et ew ek =
+      let lines : length (says log) ≤ 64 * w = omega (arith, h .1) in
+      let narrow : w ≤ 1024 = omega (arith, h .2) in
+      let room = room-enough rows w (length words) (h .3) in
+      let made : Source = source (prepared rows log w words .words) [] (soundMarked (says log) kept) in
+      let same : source words′ [] kept′ ≡ made = ap₂ (λ (x y : List ℕ). source x [] y) ew (ek ∙ sound-made rows log w words kept (h .0) narrow lines room fits) in (
+        subst (λ (x : Source). Good x t) (sym same) (subst (Good made) (sym et) (prepared-good rows log w words kept (h .0) narrow lines room fits)),
+        ap₂ (λ (x : Source) (y : List ℕ). listOver x y 0) same et ∙ prepared-lists rows log w words kept (h .0) narrow lines room fits 0 ∙ sym (table-in rows log),
+      )
 
 -- a log that is not too long has rows of at most 960 words
 pub short-width : (log : List ℕ) (w : ℕ) → w ≡ widthOf log → length log ≤ 61440 → w ≤ 960
@@ -317,7 +364,7 @@ plan-more leaves n w rows t t' m e f = let z : suc m ≡ m + 1 = omega arith in 
 
 -- ── Preparing ──
 
-module _ (rows log : List ℕ) (w : ℕ) (words leaves : List ℕ) (n : ℕ) (e : are leaves n ≡ leavesOf rows) where
+module _ (rows log : List ℕ) (w : ℕ) (words sound leaves : List ℕ) (n : ℕ) (e : are leaves n ≡ leavesOf rows) where
   pub prepare-few : n ≤ 32
   prepare-few = omega (arith, leaf-few rows, ap (λ (g : Gathered). g .count) e)
 
@@ -331,22 +378,31 @@ module _ (rows log : List ℕ) (w : ℕ) (words leaves : List ℕ) (n : ℕ) (e 
   unfolding prepared
   same = ap (λ (g : Gathered). whole g (fit (g .count) w (length words))) e
 
+  abbrev whole-sound : Bool → List ℕ
+  whole-sound b = cond b (soundMarked (says log) sound) sound
+
+  same-sound : whole-sound (fit n w (length words)) ≡ preparedSound rows log w words sound
+  unfolding preparedSound
+  same-sound = ap (λ (g : Gathered). whole-sound (fit (g .count) w (length words))) e
+
   -- where the rows do not fit
   module _ {b : Bool} (f : b ≡ fit n w (length words)) where
-    pub prepare-not : not b ≡ true → (replicate 160 0 ≡ prepared rows log w words .rows) × (words ≡ prepared rows log w words .words)
+    pub prepare-not : not b ≡ true → (replicate 160 0 ≡ prepared rows log w words .rows) × ((words ≡ prepared rows log w words .words) × (sound ≡ preparedSound rows log w words sound))
     prepare-not h =
-        let k : folding (replicate 160 0) words 0 ≡ prepared rows log w words = sym (ap (whole (are leaves n)) (sym f ∙ not-true b h)) ∙ same in
-        (ap (λ (x : Folding). x .rows) k, ap (λ (x : Folding). x .words) k)
+        let z = sym f ∙ not-true b h in
+        let k : folding (replicate 160 0) words 0 ≡ prepared rows log w words = sym (ap (whole (are leaves n)) z) ∙ same in
+        (ap (λ (x : Folding). x .rows) k, (ap (λ (x : Folding). x .words) k, sym (ap whole-sound z) ∙ same-sound))
 
     -- where they do
     module _ (h : not b ≡ false) where
       pub prepare-room : (w ≤ 1024) × (n * w ≤ length words)
       prepare-room = let k = and-true (leb w 1024) (leb (n * w) (length words)) (sym f ∙ not-false b h) in (leb-true w 1024 (k .0), leb-true (n * w) (length words) (k .1))
 
-      pub prepare-is : (words' t t' words'' : List ℕ) → words' ≡ marked leaves n (says log) w words → t ≡ planned leaves n w rows
+      pub prepare-is : (words' sound' t t' words'' : List ℕ) → words' ≡ marked leaves n (says log) w words → sound' ≡ soundMarked (says log) sound → t ≡ planned leaves n w rows
           → t' ≡ folded w 32 (folding t words' (n * w)) .rows → words'' ≡ folded w 32 (folding t words' (n * w)) .words
-          → (t' ≡ prepared rows log w words .rows) × (words'' ≡ prepared rows log w words .words)
-      prepare-is words' t t' words'' m p ft fw =
+          → (t' ≡ prepared rows log w words .rows) × ((words'' ≡ prepared rows log w words .words) × (sound' ≡ preparedSound rows log w words sound))
+      prepare-is words' sound' t t' words'' m ms p ft fw =
+          let z = sym f ∙ not-false b h in
           let k : folded w 32 (folding t words' (n * w)) ≡ prepared rows log w words =
-          ap₂ (λ (x y : List ℕ). folded w 32 (folding x y (n * w))) p m ∙ sym (ap (whole (are leaves n)) (sym f ∙ not-false b h)) ∙ same in
-          (ft ∙ ap (λ (x : Folding). x .rows) k, fw ∙ ap (λ (x : Folding). x .words) k)
+          ap₂ (λ (x y : List ℕ). folded w 32 (folding x y (n * w))) p m ∙ sym (ap (whole (are leaves n)) z) ∙ same in
+          (ft ∙ ap (λ (x : Folding). x .rows) k, (fw ∙ ap (λ (x : Folding). x .words) k, ms ∙ sym (ap whole-sound z) ∙ same-sound))

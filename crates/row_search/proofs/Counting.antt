@@ -1,23 +1,18 @@
 -- The turns of `count`: n lines are counted; from there on stand the bits of w, so many as room says, and those of the later words. Assumes nothing.
 use Prim.Native.Nat.{ℕ, suc, _+_, _-_, _*_, _/_, _%_, _^_, _≤_, _<_}
 use mathlib.Core.Path.{_≡_, sym, ap, ap₂, _∙_}
-use mathlib.Core.Bool.{Bool, true, false}
-use mathlib.Core.List.{List, [], _∷_, _++_}
+use mathlib.Core.Bool.{Bool, false}
+use mathlib.Core.List.{List, [], _++_}
 use native.Mathlib.Omega.{arith}
 use lib.ListN.{length, getD, take, drop, drop-of-length-le}
 use lib.Seq.{take-nil, take-append-add, take-append-le}
 use lib.Pow.{shr-lt}
 use lib.Count.{ones, ones-le}
 use Rattle.marks.specs.Row.{bits, flags, lies, row, trues, markCount}
+use Rattle.marks.proofs.Counts.{trues-append}
 use Rattle.marks.proofs.Bits.{length-bits, bits-below, trues-bits, trues-all, ones-low}
 use Rattle.marks.proofs.Flags.{open-flags, next-flags, past-flags}
 use Rattle.marks.proofs.Rows.{Within, row-words, row-none, row-length, words-of-row, word-of-row}
-
-trues-append : (a b : List Bool) → trues (a ++ b) ≡ trues a + trues b
-unfolding trues
-trues-append [] b = omega arith
-trues-append (true ∷ a) b = omega (arith, trues-append a b)
-trues-append (false ∷ a) b = trues-append a b
 
 pub trues-nil : (n : ℕ) → trues (take n []) ≡ 0
 unfolding trues

@@ -1,5 +1,6 @@
 pub mod LeafLaws
 pub mod Best
+pub mod Measuring
 pub mod Looks
 pub mod Nodes
 pub mod Shapes

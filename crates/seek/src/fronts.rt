@@ -8,7 +8,7 @@ ghost use mathlib.Core.Bool.{true, not, _&&_};
 ghost use Prim.Native.Nat.{_<_};
 ghost use lib.Dec.{eqb};
 ghost use Rattle.stretches.specs.Stretch.{st};
-ghost use Rattle.seek.specs.Source.{measured, source};
+ghost use Rattle.seek.specs.Source.{measuredBy};
 ghost use Rattle.seek.specs.First.{noneF, atF};
 ghost use Rattle.seek.specs.inner.Fronts.{pastOf, betterOf, Serves, putAt};
 
@@ -77,12 +77,15 @@ pub(crate) fn breaks(tight: bool, start: u32, to: u32) -> bool
     if tight { start != to } else { false }
 }
 
-// What `max` measures of a front: its lines.
-pub(crate) fn measure(words: &[u64], items: &[u32], a: Front) -> usize
-    ensures { λ r. ⌜ r ≡ measured (source (now (words .entry)) (now (items .entry))) (st (a .start) (a .end)) ⌝ }
+// What `max` measures of a front: its sound lines, where their row is there, and else its lines.
+pub(crate) fn measure(sound: &[u64], a: Front) -> usize
+    ensures { λ r. ⌜ r ≡ measuredBy (now (sound .entry)) (st (a .start) (a .end)) ⌝ }
 {
     let s = a.start;
     let e = a.end;
+    if sound.len() != 0 {
+        return ranks::count(sound, wide(s), wide(e));
+    }
     if e < s {
         return 0;
     }

@@ -3,6 +3,7 @@
 // rows: the table, in five columns of 32: kind, size of the subtree, and the numbers. Kinds: 1 or, 2 and, 3 row, 4 then, 5 less,
 // 6 max with its bound as first number, 16 a row of marks with its first word and width, 17 a lent list with its places from and to.
 // words, items: what the leaves read; rows of marks, and starts and ends in turn.
+// sound: what `max` measures by, the row of the sound lines with its counts, as `ranks` has it; empty where lines are counted, as over lists.
 // st: what is kept, in four columns of 32: one past the start (0: nothing), the end, the line asked from, and over lists a place in the items, only a hint.
 mod fronts;
 mod leaves;
@@ -31,17 +32,18 @@ pub fn first(
     rows: &[usize; TABLE],
     words: &[u64],
     items: &[u32],
+    sound: &[u64],
     st: &mut [u32; STATE],
     v: usize,
     t: u32,
 ) -> Front
-    ensures { λ r. ⌜ FirstOf (source (now (words .entry)) (now (items .entry))) (now (rows .entry)) (now (st .entry)) v t r (now (st .exit)) ⌝ }
+    ensures { λ r. ⌜ FirstOf (source (now (words .entry)) (now (items .entry)) (now (sound .entry))) (now (rows .entry)) (now (st .entry)) v t r (now (st .exit)) ⌝ }
     ensures { λ r. ⌜ Ahead t r ⌝ }
 {
     if NODES <= v {
         return fronts::none();
     }
-    let f = machine::seek(rows, words, items, st, v, t);
+    let f = machine::seek(rows, words, items, sound, st, v, t);
     let s = f.start;
     if NONE <= s {
         return fronts::none();

@@ -43,18 +43,19 @@ fn seek_or(
     rows: &[usize; TABLE],
     words: &[u64],
     items: &[u32],
+    sound: &[u64],
     st: &mut [u32; STATE],
     v: usize,
     t: u32,
 ) -> Front
     requires { ⌜ v < 32 ⌝ }
-    ensures { λ r. ⌜ (kindAt (now (rows .entry)) v ≡ 1 → Sought (source (now (words .entry)) (now (items .entry))) (now (rows .entry)) (now (st .entry)) v t r (now (st .exit))) ⌝ }
+    ensures { λ r. ⌜ (kindAt (now (rows .entry)) v ≡ 1 → Sought (source (now (words .entry)) (now (items .entry)) (now (sound .entry))) (now (rows .entry)) (now (st .entry)) v t r (now (st .exit))) ⌝ }
 {
     let stop = stop_of(rows, v);
     let mut c = v + 1;
     let mut best = none();
     while c < stop {
-        let f = seek(rows, words, items, st, c, t);
+        let f = seek(rows, words, items, sound, st, c, t);
         best = better(best, f);
         c = next_of(rows, c);
     }
@@ -66,19 +67,20 @@ fn span(
     rows: &[usize; TABLE],
     words: &[u64],
     items: &[u32],
+    sound: &[u64],
     st: &mut [u32; STATE],
     v: usize,
     t: u32,
 ) -> Front
     requires { ⌜ (v < 32) × (v + 1 < stopOf (now rows) v) ⌝ }
-    ensures { λ r. ⌜ (kindAt (now (rows .entry)) v ≡ 2 → Looked (source (now (words .entry)) (now (items .entry))) (now (rows .entry)) (now (st .entry)) v t r (now (st .exit))) ⌝ }
+    ensures { λ r. ⌜ (kindAt (now (rows .entry)) v ≡ 2 → Looked (source (now (words .entry)) (now (items .entry)) (now (sound .entry))) (now (rows .entry)) (now (st .entry)) v t r (now (st .exit))) ⌝ }
 {
     let stop = stop_of(rows, v);
     let mut s: u32 = NONE;
     let mut e: u32 = 0;
     let mut c = v + 1;
     while c < stop {
-        let f = seek(rows, words, items, st, c, t);
+        let f = seek(rows, words, items, sound, st, c, t);
         if NONE <= f.start {
             return none();
         }
@@ -94,16 +96,17 @@ fn chain(
     rows: &[usize; TABLE],
     words: &[u64],
     items: &[u32],
+    sound: &[u64],
     st: &mut [u32; STATE],
     v: usize,
     t: u32,
 ) -> Front
     requires { ⌜ (v < 32) × (v + 1 < stopOf (now rows) v) ⌝ }
-    ensures { λ r. ⌜ (Chains (kindAt (now (rows .entry)) v) → Looked (source (now (words .entry)) (now (items .entry))) (now (rows .entry)) (now (st .entry)) v t r (now (st .exit))) ⌝ }
+    ensures { λ r. ⌜ (Chains (kindAt (now (rows .entry)) v) → Looked (source (now (words .entry)) (now (items .entry)) (now (sound .entry))) (now (rows .entry)) (now (st .entry)) v t r (now (st .exit))) ⌝ }
 {
     let tight = rows[v] == ROW;
     let stop = stop_of(rows, v);
-    let a = seek(rows, words, items, st, v + 1, t);
+    let a = seek(rows, words, items, sound, st, v + 1, t);
     let s = a.start;
     if NONE <= s {
         return none();
@@ -112,7 +115,7 @@ fn chain(
     let mut c = next_of(rows, v + 1);
     while c < stop {
         let to = past(e);
-        let f = seek(rows, words, items, st, c, to);
+        let f = seek(rows, words, items, sound, st, c, to);
         if NONE <= f.start {
             return none();
         }
@@ -130,21 +133,22 @@ fn passes(
     rows: &[usize; TABLE],
     words: &[u64],
     items: &[u32],
+    sound: &[u64],
     st: &mut [u32; STATE],
     v: usize,
     a: Front,
 ) -> bool
     requires { ⌜ (v < 32) × (v + 1 < stopOf (now rows) v) ⌝ }
-    ensures { λ r. ⌜ Tested (source (now (words .entry)) (now (items .entry))) (now (rows .entry)) (now (st .entry)) v a r (now (st .exit)) ⌝ }
+    ensures { λ r. ⌜ Tested (source (now (words .entry)) (now (items .entry)) (now (sound .entry))) (now (rows .entry)) (now (st .entry)) v a r (now (st .exit)) ⌝ }
 {
     if rows[v] == MAX {
-        return measure(words, items, a) <= rows[FIRST + v];
+        return measure(sound, a) <= rows[FIRST + v];
     }
     let other = next_of(rows, v + 1);
     if stop_of(rows, v) <= other {
         return true;
     }
-    let b = seek(rows, words, items, st, other, a.start);
+    let b = seek(rows, words, items, sound, st, other, a.start);
     a.end < b.end
 }
 
@@ -153,18 +157,19 @@ fn filter(
     rows: &[usize; TABLE],
     words: &[u64],
     items: &[u32],
+    sound: &[u64],
     st: &mut [u32; STATE],
     v: usize,
     t: u32,
 ) -> Front
     requires { ⌜ (v < 32) × (v + 1 < stopOf (now rows) v) ⌝ }
-    ensures { λ r. ⌜ (Filters (kindAt (now (rows .entry)) v) → Looked (source (now (words .entry)) (now (items .entry))) (now (rows .entry)) (now (st .entry)) v t r (now (st .exit))) ⌝ }
+    ensures { λ r. ⌜ (Filters (kindAt (now (rows .entry)) v) → Looked (source (now (words .entry)) (now (items .entry)) (now (sound .entry))) (now (rows .entry)) (now (st .entry)) v t r (now (st .exit))) ⌝ }
 {
-    let a = seek(rows, words, items, st, v + 1, t);
+    let a = seek(rows, words, items, sound, st, v + 1, t);
     if NONE <= a.start {
         return none();
     }
-    if passes(rows, words, items, st, v, a) {
+    if passes(rows, words, items, sound, st, v, a) {
         return a;
     }
     at(a.start, NONE)
@@ -185,24 +190,25 @@ fn look_at(
     rows: &[usize; TABLE],
     words: &[u64],
     items: &[u32],
+    sound: &[u64],
     st: &mut [u32; STATE],
     v: usize,
     t: u32,
 ) -> Front
     requires { ⌜ (v < 32) × (1 < kindAt (now rows) v) ⌝ }
-    ensures { λ r. ⌜ Looked (source (now (words .entry)) (now (items .entry))) (now (rows .entry)) (now (st .entry)) v t r (now (st .exit)) ⌝ }
+    ensures { λ r. ⌜ Looked (source (now (words .entry)) (now (items .entry)) (now (sound .entry))) (now (rows .entry)) (now (st .entry)) v t r (now (st .exit)) ⌝ }
 {
     if stop_of(rows, v) <= v + 1 {
         return none();
     }
     let kind = rows[v];
     if kind == AND {
-        return span(rows, words, items, st, v, t);
+        return span(rows, words, items, sound, st, v, t);
     }
     if is_chain(kind) {
-        return chain(rows, words, items, st, v, t);
+        return chain(rows, words, items, sound, st, v, t);
     }
-    filter(rows, words, items, st, v, t)
+    filter(rows, words, items, sound, st, v, t)
 }
 
 // Whether a look is the front: it is good, and the kind is not one that narrows.
@@ -224,18 +230,19 @@ fn advance(
     rows: &[usize; TABLE],
     words: &[u64],
     items: &[u32],
+    sound: &[u64],
     st: &mut [u32; STATE],
     v: usize,
     t: u32,
 ) -> Front
     requires { ⌜ (v < 32) × (1 < kindAt (now rows) v) ⌝ }
-    ensures { λ r. ⌜ (kindAt (now (rows .entry)) v < 7 → Sought (source (now (words .entry)) (now (items .entry))) (now (rows .entry)) (now (st .entry)) v t r (now (st .exit))) ⌝ }
+    ensures { λ r. ⌜ (kindAt (now (rows .entry)) v < 7 → Sought (source (now (words .entry)) (now (items .entry)) (now (sound .entry))) (now (rows .entry)) (now (st .entry)) v t r (now (st .exit))) ⌝ }
 {
     let kind = rows[v];
     let mut best = none();
     let mut from = t;
     while from < NONE {
-        let a = look_at(rows, words, items, st, v, from);
+        let a = look_at(rows, words, items, sound, st, v, from);
         let s = a.start;
         if NONE <= s {
             return best;
@@ -279,12 +286,13 @@ fn fresh(
     rows: &[usize; TABLE],
     words: &[u64],
     items: &[u32],
+    sound: &[u64],
     st: &mut [u32; STATE],
     v: usize,
     t: u32,
 ) -> Front
     requires { ⌜ v < 32 ⌝ }
-    ensures { λ r. ⌜ Sought (source (now (words .entry)) (now (items .entry))) (now (rows .entry)) (now (st .entry)) v t r (now (st .exit)) ⌝ }
+    ensures { λ r. ⌜ Sought (source (now (words .entry)) (now (items .entry)) (now (sound .entry))) (now (rows .entry)) (now (st .entry)) v t r (now (st .exit)) ⌝ }
 {
     let kind = rows[v];
     if kind == MARKS {
@@ -294,10 +302,10 @@ fn fresh(
         return seek_list(rows, items, st, v, t);
     }
     if kind == OR {
-        return seek_or(rows, words, items, st, v, t);
+        return seek_or(rows, words, items, sound, st, v, t);
     }
     if has_looks(kind) {
-        return advance(rows, words, items, st, v, t);
+        return advance(rows, words, items, sound, st, v, t);
     }
     none()
 }
@@ -307,14 +315,15 @@ fn renew(
     rows: &[usize; TABLE],
     words: &[u64],
     items: &[u32],
+    sound: &[u64],
     st: &mut [u32; STATE],
     v: usize,
     t: u32,
 ) -> Front
     requires { ⌜ v < 32 ⌝ }
-    ensures { λ r. ⌜ Sought (source (now (words .entry)) (now (items .entry))) (now (rows .entry)) (now (st .entry)) v t r (now (st .exit)) ⌝ }
+    ensures { λ r. ⌜ Sought (source (now (words .entry)) (now (items .entry)) (now (sound .entry))) (now (rows .entry)) (now (st .entry)) v t r (now (st .exit)) ⌝ }
 {
-    let r = fresh(rows, words, items, st, v, t);
+    let r = fresh(rows, words, items, sound, st, v, t);
     put_front(st, v, r, t);
     r
 }
@@ -324,15 +333,16 @@ pub(crate) fn seek(
     rows: &[usize; TABLE],
     words: &[u64],
     items: &[u32],
+    sound: &[u64],
     st: &mut [u32; STATE],
     v: usize,
     t: u32,
 ) -> Front
     requires { ⌜ v < 32 ⌝ }
-    ensures { λ r. ⌜ Sought (source (now (words .entry)) (now (items .entry))) (now (rows .entry)) (now (st .entry)) v t r (now (st .exit)) ⌝ }
+    ensures { λ r. ⌜ Sought (source (now (words .entry)) (now (items .entry)) (now (sound .entry))) (now (rows .entry)) (now (st .entry)) v t r (now (st .exit)) ⌝ }
 {
     if serves(st, v, t) {
         return at(st[v] - 1, st[32 + v]);
     }
-    renew(rows, words, items, st, v, t)
+    renew(rows, words, items, sound, st, v, t)
 }

@@ -11,6 +11,7 @@ pub mod Ordered
 pub mod Tight
 pub mod Union
 pub mod Fine
+pub mod Measures
 pub mod Table
 pub mod Filling
 pub mod Lent

@@ -18,16 +18,17 @@ fn pass_over(
     rows: &[usize; TABLE],
     words: &[u64],
     items: &[u32],
+    sound: &[u64],
     st: &mut [u32; STATE],
     t0: u32,
     n: usize,
 ) -> u32
-    ensures { λ r. ⌜ PassedOver (source (now (words .entry)) (now (items .entry))) (now (rows .entry)) (now (st .entry)) t0 n r (now (st .exit)) ⌝ }
+    ensures { λ r. ⌜ PassedOver (source (now (words .entry)) (now (items .entry)) (now (sound .entry))) (now (rows .entry)) (now (st .entry)) t0 n r (now (st .exit)) ⌝ }
 {
     let mut t = t0;
     let mut k: usize = 0;
     while k < n {
-        let f = seek::first(rows, words, items, st, 0, t);
+        let f = seek::first(rows, words, items, sound, st, 0, t);
         let s = f.start;
         if NONE <= s {
             return t;
@@ -43,18 +44,19 @@ fn put_all(
     rows: &[usize; TABLE],
     words: &[u64],
     items: &[u32],
+    sound: &[u64],
     st: &mut [u32; STATE],
     t0: u32,
     cells: &mut [u32],
 ) -> Walked
-    ensures { λ r. ⌜ Put (source (now (words .entry)) (now (items .entry))) (now (rows .entry)) (now (st .entry)) t0 (now (cells .entry)) r (now (cells .exit)) ⌝ }
+    ensures { λ r. ⌜ Put (source (now (words .entry)) (now (items .entry)) (now (sound .entry))) (now (rows .entry)) (now (st .entry)) t0 (now (cells .entry)) r (now (cells .exit)) ⌝ }
     ensures { λ r. ⌜ Within (now (cells .entry)) r (now (cells .exit)) ⌝ }
 {
     let mut t = t0;
     let mut n: usize = 0;
     let mut room = cells.len();
     while 2 <= room {
-        let a = seek::first(rows, words, items, st, 0, t);
+        let a = seek::first(rows, words, items, sound, st, 0, t);
         let s = a.start;
         if NONE <= s {
             return Walked {
@@ -68,7 +70,7 @@ fn put_all(
         n += 1;
         t = s + 1;
     }
-    let b = seek::first(rows, words, items, st, 0, t);
+    let b = seek::first(rows, words, items, sound, st, 0, t);
     if NONE <= b.start {
         return Walked {
             count: n,
@@ -87,14 +89,15 @@ pub fn fill(
     rows: &[usize; TABLE],
     words: &[u64],
     items: &[u32],
+    sound: &[u64],
     cells: &mut [u32],
     line: u32,
     from: usize,
 ) -> Walked
-    ensures { λ r. ⌜ FillAll (source (now (words .entry)) (now (items .entry))) (now (rows .entry)) line from (now (cells .entry)) r (now (cells .exit)) ⌝ }
+    ensures { λ r. ⌜ FillAll (source (now (words .entry)) (now (items .entry)) (now (sound .entry))) (now (rows .entry)) line from (now (cells .entry)) r (now (cells .exit)) ⌝ }
     ensures { λ r. ⌜ Within (now (cells .entry)) r (now (cells .exit)) ⌝ }
 {
     let mut st = [0u32; STATE];
-    let t = pass_over(rows, words, items, &mut st, line, from);
-    put_all(rows, words, items, &mut st, t, cells)
+    let t = pass_over(rows, words, items, sound, &mut st, line, from);
+    put_all(rows, words, items, sound, &mut st, t, cells)
 }

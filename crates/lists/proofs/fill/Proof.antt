@@ -15,7 +15,7 @@ table-requires : tie.Need-table-requires
 table-requires c κs = let a = c .before .before .before .before .before .before .before .args in fills (a .op) (a .k) (a .items .now) (a .ends .now) (a .cells .now) (a .from) (c .before .before .before .refusal .result) (c .before .before .before .refusal .ensures) (c .before .before .if1 .left) .few
 
 returns-2 : tie.Need-returns-2
-returns-2 c = let a = c .before .before .before .before .before .before .before .before .before .before .before .before .before .before .args in let l = subst₂ (λ (x y : ℕ). Laid x y (length (a .ends .now)) (a .ends .now) (length (a .ends .now)) (c .before .before .before .before .before .before .table .result)) (c .before .before .before .before .before .before .before .before .wide .ensures .0) (c .before .before .before .before .before .before .before .wide2 .ensures .0) (c .before .before .before .before .before .before .table .ensures) in (fill-walked (a .op) (a .k) (a .items .now) (a .ends .now) (a .cells .now) (a .from) (c .before .before .before .before .before .before .before .before .before .before .refusal .result) (c .before .before .before .before .before .before .before .before .before .before .refusal .ensures) (c .before .before .before .before .before .before .before .before .before .if1 .left) (c .before .before .before .before .before .before .table .result) (c .before .before .fill .last .1 .1 .1 .0) (c .before .before .fill .result) l (c .before .before .fill .ensures .0), fill-wrote (a .op) (a .k) (a .items .now) (a .ends .now) (a .cells .now) (a .from) (c .before .before .before .before .before .before .before .before .before .before .refusal .result) (c .before .before .before .before .before .before .before .before .before .before .refusal .ensures) (c .before .before .before .before .before .before .before .before .before .if1 .left) (c .before .before .before .before .before .before .table .result) (c .before .before .fill .last .1 .1 .1 .0) (c .before .before .fill .result) l (c .before .before .fill .ensures .0))
+returns-2 c = let a = c .before .before .before .before .before .before .before .before .before .before .before .before .before .before .before .args in let l = subst₂ (λ (x y : ℕ). Laid x y (length (a .ends .now)) (a .ends .now) (length (a .ends .now)) (c .before .before .before .before .before .before .before .table .result)) (c .before .before .before .before .before .before .before .before .before .wide .ensures .0) (c .before .before .before .before .before .before .before .before .wide2 .ensures .0) (c .before .before .before .before .before .before .before .table .ensures) in (fill-walked (a .op) (a .k) (a .items .now) (a .ends .now) (a .cells .now) (a .from) (c .before .before .before .before .before .before .before .before .before .before .before .refusal .result) (c .before .before .before .before .before .before .before .before .before .before .before .refusal .ensures) (c .before .before .before .before .before .before .before .before .before .before .if1 .left) (c .before .before .before .before .before .before .before .table .result) (c .before .before .fill .last .1 .1 .1 .1 .0) (c .before .before .fill .result) l (c .before .before .fill .ensures .0), fill-wrote (a .op) (a .k) (a .items .now) (a .ends .now) (a .cells .now) (a .from) (c .before .before .before .before .before .before .before .before .before .before .before .refusal .result) (c .before .before .before .before .before .before .before .before .before .before .before .refusal .ensures) (c .before .before .before .before .before .before .before .before .before .before .if1 .left) (c .before .before .before .before .before .before .before .table .result) (c .before .before .fill .last .1 .1 .1 .1 .0) (c .before .before .fill .result) l (c .before .before .fill .ensures .0))
 
 pub fill-spec : {M : Type 1} → statement M
-fill-spec = tie.close (tie.spec (λ c κs. search needs) returns (λ c κs. search needs) (λ c κs. search needs) table-requires (λ c. search needs) (λ c. search needs) (λ c κs. search needs) (λ c. search needs) returns-2)
+fill-spec = tie.close (tie.spec (λ c κs. search needs) returns (λ c κs. search needs) (λ c κs. search needs) table-requires (λ c. search needs) (λ c. search needs) (λ c. search needs) (λ c. search needs) (λ c κs. search needs) (λ c. search needs) returns-2)

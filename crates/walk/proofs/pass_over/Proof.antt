@@ -9,10 +9,10 @@ use Rattle.walk.proofs.pass_over.Statement.{statement}
 use Rattle.walk.proofs.pass_over.Tie as tie
 
 abbrev Inv-loop : tie.InvT-loop
-Inv-loop rows words items st₀ t0 n t₀ k₀ st t k = (k ≤ n) × PassedOver (source words items) rows st₀ t0 k t st
+Inv-loop rows words items sound st₀ t0 n t₀ k₀ st t k = (k ≤ n) × PassedOver (source words items sound) rows st₀ t0 k t st
 
 abbrev μ-loop : tie.MeasureT-loop
-μ-loop rows words items st₀ t0 n t₀ k₀ st t k = n - k
+μ-loop rows words items sound st₀ t0 n t₀ k₀ st t k = n - k
 
 loop-holds : tie.Need-loop-holds Inv-loop μ-loop
 loop-holds c = (omega arith, over-start)

@@ -10,10 +10,10 @@ use Rattle.walk.proofs.put_all.Statement.{statement}
 use Rattle.walk.proofs.put_all.Tie as tie
 
 abbrev Inv-loop : tie.InvT-loop
-Inv-loop rows words items st₀ t0 cells₀ t₀ n₀ room₀ st cells t n room = (length cells ≡ length cells₀) × (2 * n + room ≡ length cells₀) × (drop (2 * n) cells ≡ drop (2 * n) cells₀) × PutInv (source words items) rows st₀ t0 cells₀ st t n cells
+Inv-loop rows words items sound st₀ t0 cells₀ t₀ n₀ room₀ st cells t n room = (length cells ≡ length cells₀) × (2 * n + room ≡ length cells₀) × (drop (2 * n) cells ≡ drop (2 * n) cells₀) × PutInv (source words items sound) rows st₀ t0 cells₀ st t n cells
 
 abbrev μ-loop : tie.MeasureT-loop
-μ-loop rows words items st₀ t0 cells₀ t₀ n₀ room₀ st cells t n room = room
+μ-loop rows words items sound st₀ t0 cells₀ t₀ n₀ room₀ st cells t n room = room
 
 loop-holds : tie.Need-loop-holds Inv-loop μ-loop
 loop-holds c = (refl, omega arith, refl, put-start)
@@ -28,7 +28,7 @@ add-t : tie.Need-add-t Inv-loop μ-loop
 add-t c = omega arith
 
 loop-again : tie.Need-loop-again Inv-loop μ-loop
-loop-again c = let l = c .before .before .before .before .loop in let f = c .before .first .result in (simp (length-set, length-set) (omega arith), omega arith, kept-turn (c .before .before .before .before .before .before .before .before .args .cells .now) (l .cells) (l .n) (f .start) (f .end) (l .inv .2), put-turn (l .inv .3) (c .before .first .ensures .0) (c .if1 .left) (omega arith))
+loop-again c = let l = c .before .before .before .before .loop in let f = c .before .first .result in (simp (length-set, length-set) (omega arith), omega arith, kept-turn (c .before .before .before .before .before .before .before .before .before .args .cells .now) (l .cells) (l .n) (f .start) (f .end) (l .inv .2), put-turn (l .inv .3) (c .before .first .ensures .0) (c .if1 .left) (omega arith))
 
 returns-2 : tie.Need-returns-2 Inv-loop μ-loop
 returns-2 c = (put-done (c .before .before .before .before .before .loop .inv .3) (c .before .before .first2 .ensures .0) refl (c .if2 .taken) (omega arith), record { fits = omega arith; keeps = c .before .before .before .before .before .loop .inv .2 })

@@ -23,92 +23,92 @@ use Rattle.seek.proofs.machine.seek_or.Kinds as seek-or-kinds
 use Rattle.seek.proofs.machine.span.Reads as span
 use Rattle.seek.proofs.machine.span.Kinds as span-kinds
 
-abbrev pub μ-advance : Measures 4 advance-kinds.ps ℕ
-μ-advance κs a = 8 * (32 - a .1 .1 .1 .1 .0) + 4
+abbrev pub μ-advance : Measures 5 advance-kinds.ps ℕ
+μ-advance κs a = 8 * (32 - a .1 .1 .1 .1 .1 .0) + 4
 
-abbrev pub μ-chain : Measures 4 chain-kinds.ps ℕ
-μ-chain κs a = 8 * (32 - a .1 .1 .1 .1 .0) + 2
+abbrev pub μ-chain : Measures 5 chain-kinds.ps ℕ
+μ-chain κs a = 8 * (32 - a .1 .1 .1 .1 .1 .0) + 2
 
-abbrev pub μ-filter : Measures 4 filter-kinds.ps ℕ
-μ-filter κs a = 8 * (32 - a .1 .1 .1 .1 .0) + 2
+abbrev pub μ-filter : Measures 5 filter-kinds.ps ℕ
+μ-filter κs a = 8 * (32 - a .1 .1 .1 .1 .1 .0) + 2
 
-abbrev pub μ-fresh : Measures 4 fresh-kinds.ps ℕ
-μ-fresh κs a = 8 * (32 - a .1 .1 .1 .1 .0) + 5
+abbrev pub μ-fresh : Measures 5 fresh-kinds.ps ℕ
+μ-fresh κs a = 8 * (32 - a .1 .1 .1 .1 .1 .0) + 5
 
-abbrev pub μ-look-at : Measures 4 look-at-kinds.ps ℕ
-μ-look-at κs a = 8 * (32 - a .1 .1 .1 .1 .0) + 3
+abbrev pub μ-look-at : Measures 5 look-at-kinds.ps ℕ
+μ-look-at κs a = 8 * (32 - a .1 .1 .1 .1 .1 .0) + 3
 
-abbrev pub μ-passes : Measures 4 passes-kinds.ps ℕ
-μ-passes κs a = 8 * (32 - a .1 .1 .1 .1 .0) + 1
+abbrev pub μ-passes : Measures 5 passes-kinds.ps ℕ
+μ-passes κs a = 8 * (32 - a .1 .1 .1 .1 .1 .0) + 1
 
-abbrev pub μ-renew : Measures 4 renew-kinds.ps ℕ
-μ-renew κs a = 8 * (32 - a .1 .1 .1 .1 .0) + 6
+abbrev pub μ-renew : Measures 5 renew-kinds.ps ℕ
+μ-renew κs a = 8 * (32 - a .1 .1 .1 .1 .1 .0) + 6
 
-abbrev pub μ-seek : Measures 4 seek-kinds.ps ℕ
-μ-seek κs a = 8 * (32 - a .1 .1 .1 .1 .0) + 7
+abbrev pub μ-seek : Measures 5 seek-kinds.ps ℕ
+μ-seek κs a = 8 * (32 - a .1 .1 .1 .1 .1 .0) + 7
 
-abbrev pub μ-seek-or : Measures 4 seek-or-kinds.ps ℕ
-μ-seek-or κs a = 8 * (32 - a .1 .1 .1 .1 .0) + 4
+abbrev pub μ-seek-or : Measures 5 seek-or-kinds.ps ℕ
+μ-seek-or κs a = 8 * (32 - a .1 .1 .1 .1 .1 .0) + 4
 
-abbrev pub μ-span : Measures 4 span-kinds.ps ℕ
-μ-span κs a = 8 * (32 - a .1 .1 .1 .1 .0) + 2
+abbrev pub μ-span : Measures 5 span-kinds.ps ℕ
+μ-span κs a = 8 * (32 - a .1 .1 .1 .1 .1 .0) + 2
 
-abbrev pub advance-at : ℕ → In 4 advance-kinds.ps
-advance-at t = and 4 advance-kinds.ps (is 4 advance-kinds.ps μ-advance t) advance.Pre
+abbrev pub advance-at : ℕ → In 5 advance-kinds.ps
+advance-at t = and 5 advance-kinds.ps (is 5 advance-kinds.ps μ-advance t) advance.Pre
 
-abbrev pub advance-below : ℕ → In 4 advance-kinds.ps
-advance-below t = and 4 advance-kinds.ps (falls 4 advance-kinds.ps _<_ μ-advance t) advance.Pre
+abbrev pub advance-below : ℕ → In 5 advance-kinds.ps
+advance-below t = and 5 advance-kinds.ps (falls 5 advance-kinds.ps _<_ μ-advance t) advance.Pre
 
-abbrev pub chain-at : ℕ → In 4 chain-kinds.ps
-chain-at t = and 4 chain-kinds.ps (is 4 chain-kinds.ps μ-chain t) chain.Pre
+abbrev pub chain-at : ℕ → In 5 chain-kinds.ps
+chain-at t = and 5 chain-kinds.ps (is 5 chain-kinds.ps μ-chain t) chain.Pre
 
-abbrev pub chain-below : ℕ → In 4 chain-kinds.ps
-chain-below t = and 4 chain-kinds.ps (falls 4 chain-kinds.ps _<_ μ-chain t) chain.Pre
+abbrev pub chain-below : ℕ → In 5 chain-kinds.ps
+chain-below t = and 5 chain-kinds.ps (falls 5 chain-kinds.ps _<_ μ-chain t) chain.Pre
 
-abbrev pub filter-at : ℕ → In 4 filter-kinds.ps
-filter-at t = and 4 filter-kinds.ps (is 4 filter-kinds.ps μ-filter t) filter.Pre
+abbrev pub filter-at : ℕ → In 5 filter-kinds.ps
+filter-at t = and 5 filter-kinds.ps (is 5 filter-kinds.ps μ-filter t) filter.Pre
 
-abbrev pub filter-below : ℕ → In 4 filter-kinds.ps
-filter-below t = and 4 filter-kinds.ps (falls 4 filter-kinds.ps _<_ μ-filter t) filter.Pre
+abbrev pub filter-below : ℕ → In 5 filter-kinds.ps
+filter-below t = and 5 filter-kinds.ps (falls 5 filter-kinds.ps _<_ μ-filter t) filter.Pre
 
-abbrev pub fresh-at : ℕ → In 4 fresh-kinds.ps
-fresh-at t = and 4 fresh-kinds.ps (is 4 fresh-kinds.ps μ-fresh t) fresh.Pre
+abbrev pub fresh-at : ℕ → In 5 fresh-kinds.ps
+fresh-at t = and 5 fresh-kinds.ps (is 5 fresh-kinds.ps μ-fresh t) fresh.Pre
 
-abbrev pub fresh-below : ℕ → In 4 fresh-kinds.ps
-fresh-below t = and 4 fresh-kinds.ps (falls 4 fresh-kinds.ps _<_ μ-fresh t) fresh.Pre
+abbrev pub fresh-below : ℕ → In 5 fresh-kinds.ps
+fresh-below t = and 5 fresh-kinds.ps (falls 5 fresh-kinds.ps _<_ μ-fresh t) fresh.Pre
 
-abbrev pub look-at-at : ℕ → In 4 look-at-kinds.ps
-look-at-at t = and 4 look-at-kinds.ps (is 4 look-at-kinds.ps μ-look-at t) look-at.Pre
+abbrev pub look-at-at : ℕ → In 5 look-at-kinds.ps
+look-at-at t = and 5 look-at-kinds.ps (is 5 look-at-kinds.ps μ-look-at t) look-at.Pre
 
-abbrev pub look-at-below : ℕ → In 4 look-at-kinds.ps
-look-at-below t = and 4 look-at-kinds.ps (falls 4 look-at-kinds.ps _<_ μ-look-at t) look-at.Pre
+abbrev pub look-at-below : ℕ → In 5 look-at-kinds.ps
+look-at-below t = and 5 look-at-kinds.ps (falls 5 look-at-kinds.ps _<_ μ-look-at t) look-at.Pre
 
-abbrev pub passes-at : ℕ → In 4 passes-kinds.ps
-passes-at t = and 4 passes-kinds.ps (is 4 passes-kinds.ps μ-passes t) passes.Pre
+abbrev pub passes-at : ℕ → In 5 passes-kinds.ps
+passes-at t = and 5 passes-kinds.ps (is 5 passes-kinds.ps μ-passes t) passes.Pre
 
-abbrev pub passes-below : ℕ → In 4 passes-kinds.ps
-passes-below t = and 4 passes-kinds.ps (falls 4 passes-kinds.ps _<_ μ-passes t) passes.Pre
+abbrev pub passes-below : ℕ → In 5 passes-kinds.ps
+passes-below t = and 5 passes-kinds.ps (falls 5 passes-kinds.ps _<_ μ-passes t) passes.Pre
 
-abbrev pub renew-at : ℕ → In 4 renew-kinds.ps
-renew-at t = and 4 renew-kinds.ps (is 4 renew-kinds.ps μ-renew t) renew.Pre
+abbrev pub renew-at : ℕ → In 5 renew-kinds.ps
+renew-at t = and 5 renew-kinds.ps (is 5 renew-kinds.ps μ-renew t) renew.Pre
 
-abbrev pub renew-below : ℕ → In 4 renew-kinds.ps
-renew-below t = and 4 renew-kinds.ps (falls 4 renew-kinds.ps _<_ μ-renew t) renew.Pre
+abbrev pub renew-below : ℕ → In 5 renew-kinds.ps
+renew-below t = and 5 renew-kinds.ps (falls 5 renew-kinds.ps _<_ μ-renew t) renew.Pre
 
-abbrev pub seek-at : ℕ → In 4 seek-kinds.ps
-seek-at t = and 4 seek-kinds.ps (is 4 seek-kinds.ps μ-seek t) seek.Pre
+abbrev pub seek-at : ℕ → In 5 seek-kinds.ps
+seek-at t = and 5 seek-kinds.ps (is 5 seek-kinds.ps μ-seek t) seek.Pre
 
-abbrev pub seek-below : ℕ → In 4 seek-kinds.ps
-seek-below t = and 4 seek-kinds.ps (falls 4 seek-kinds.ps _<_ μ-seek t) seek.Pre
+abbrev pub seek-below : ℕ → In 5 seek-kinds.ps
+seek-below t = and 5 seek-kinds.ps (falls 5 seek-kinds.ps _<_ μ-seek t) seek.Pre
 
-abbrev pub seek-or-at : ℕ → In 4 seek-or-kinds.ps
-seek-or-at t = and 4 seek-or-kinds.ps (is 4 seek-or-kinds.ps μ-seek-or t) seek-or.Pre
+abbrev pub seek-or-at : ℕ → In 5 seek-or-kinds.ps
+seek-or-at t = and 5 seek-or-kinds.ps (is 5 seek-or-kinds.ps μ-seek-or t) seek-or.Pre
 
-abbrev pub seek-or-below : ℕ → In 4 seek-or-kinds.ps
-seek-or-below t = and 4 seek-or-kinds.ps (falls 4 seek-or-kinds.ps _<_ μ-seek-or t) seek-or.Pre
+abbrev pub seek-or-below : ℕ → In 5 seek-or-kinds.ps
+seek-or-below t = and 5 seek-or-kinds.ps (falls 5 seek-or-kinds.ps _<_ μ-seek-or t) seek-or.Pre
 
-abbrev pub span-at : ℕ → In 4 span-kinds.ps
-span-at t = and 4 span-kinds.ps (is 4 span-kinds.ps μ-span t) span.Pre
+abbrev pub span-at : ℕ → In 5 span-kinds.ps
+span-at t = and 5 span-kinds.ps (is 5 span-kinds.ps μ-span t) span.Pre
 
-abbrev pub span-below : ℕ → In 4 span-kinds.ps
-span-below t = and 4 span-kinds.ps (falls 4 span-kinds.ps _<_ μ-span t) span.Pre
+abbrev pub span-below : ℕ → In 5 span-kinds.ps
+span-below t = and 5 span-kinds.ps (falls 5 span-kinds.ps _<_ μ-span t) span.Pre

@@ -18,10 +18,10 @@ abbrev R : ℕ → lts.Claims
 R t = (seek-row-reads.Asked, seek-row-reads.Learnt, seek-list-reads.Asked, seek-list-reads.Learnt, seek-or-below t, seek-or.Post, has-looks-reads.Asked, has-looks-reads.Learnt, advance-below t, advance.Post, none-reads.Asked, none-reads.Learnt)
 
 returns : (t : ℕ) → lts.Need-returns (R t) (fresh-at t) fresh.Post
-returns t c = by-row (omega (arith, c .before .before .before .before .before .pre .1)) (c .before .if1 .taken) (c .seek-row .ensures)
+returns t c = by-row (omega (arith, c .before .before .before .before .before .before .pre .1)) (c .before .if1 .taken) (c .seek-row .ensures)
 
 returns-2 : (t : ℕ) → lts.Need-returns-2 (R t) (fresh-at t) fresh.Post
-returns-2 t c = by-list (omega (arith, c .before .before .before .before .before .before .before .pre .1)) (c .before .before .if2 .taken) (c .seek-list .ensures)
+returns-2 t c = by-list (omega (arith, c .before .before .before .before .before .before .before .before .pre .1)) (c .before .before .if2 .taken) (c .seek-list .ensures)
 
 returns-3 : (t : ℕ) → lts.Need-returns-3 (R t) (fresh-at t) fresh.Post
 returns-3 t c = c .seek-or .ensures (c .before .before .if3 .taken)
@@ -35,7 +35,7 @@ returns-4 t c = c .advance .ensures (c .before .before .before .has-looks .ensur
 returns-5 : (t : ℕ) → lts.Need-returns-5 (R t) (fresh-at t) fresh.Post
 returns-5 t c =
     let b = c .before .before in
-    by-none (omega (arith, b .before .before .before .before .before .before .before .pre .1)) (⊎-elim (λ h. inl (omega (arith, h, b .before .if3 .left))) (λ h. inr h) (b .has-looks .ensures .1 (c .before .if4 .left))) (b .before .before .before .if1 .left) (b .before .before .if2 .left) (c .none .ensures)
+    by-none (omega (arith, b .before .before .before .before .before .before .before .before .pre .1)) (⊎-elim (λ h. inl (omega (arith, h, b .before .if3 .left))) (λ h. inr h) (b .has-looks .ensures .1 (c .before .if4 .left))) (b .before .before .before .if1 .left) (b .before .before .if2 .left) (c .none .ensures)
 
 pub proved : {M : Type 1} (t : ℕ) → lts.Closed (R t) (fresh-at t) fresh.Post M
 proved t = lts.spec (R t) (fresh-at t) fresh.Post (λ c. search needs) (λ c. search needs) (λ c κs. search needs) (returns t) (λ c κs. search needs) (returns-2 t) (λ c κs. search needs) (returns-3 t) (λ c κs. search needs) (advance-requires t) (returns-4 t) (λ c κs. search needs) (returns-5 t)

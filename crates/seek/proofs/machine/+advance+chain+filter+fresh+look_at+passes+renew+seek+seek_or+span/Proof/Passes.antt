@@ -16,16 +16,16 @@ abbrev R : ℕ → lts.Claims
 R t = (measure-reads.Asked, measure-reads.Learnt, next-of-reads.Asked, next-of-reads.Learnt, stop-of-reads.Asked, stop-of-reads.Learnt, seek-below t, seek.Post)
 
 returns : (t : ℕ) → lts.Need-returns (R t) (passes-at t) passes.Post
-returns t c = test-max (c .before .before .before .before .before .before .pre .1 .0) (c .before .before .before .before .before .before .pre .1 .1) (c .before .before .if1 .taken) (c .before .measure .ensures) refl
+returns t c = test-max (c .before .before .before .before .before .before .before .pre .1 .0) (c .before .before .before .before .before .before .before .pre .1 .1) (c .before .before .if1 .taken) (c .before .measure .ensures) refl
 
 returns-2 : (t : ℕ) → lts.Need-returns-2 (R t) (passes-at t) passes.Post
-returns-2 t c = test-alone (c .before .before .before .before .before .before .before .pre .1 .0) (c .before .before .before .before .before .before .before .pre .1 .1) (c .before .before .before .if1 .left) (c .before .before .next-of .ensures .1) (omega (arith, c .before .stop-of .ensures .1)) refl
+returns-2 t c = test-alone (c .before .before .before .before .before .before .before .before .pre .1 .0) (c .before .before .before .before .before .before .before .before .pre .1 .1) (c .before .before .before .if1 .left) (c .before .before .next-of .ensures .1) (omega (arith, c .before .stop-of .ensures .1)) refl
 
 seek-requires : (t : ℕ) → lts.Need-seek-requires (R t) (passes-at t) passes.Post
-seek-requires t c κs = let h = c .before .before .before .next-of .ensures .0 .0 (omega (arith, c .before .before .before .before .before .before .before .before .pre .1)) in (omega (arith, h), omega arith)
+seek-requires t c κs = let h = c .before .before .before .next-of .ensures .0 .0 (omega (arith, c .before .before .before .before .before .before .before .before .before .pre .1)) in (omega (arith, h), omega arith)
 
 returns-3 : (t : ℕ) → lts.Need-returns-3 (R t) (passes-at t) passes.Post
-returns-3 t c = test-less (c .before .before .before .before .before .before .before .before .before .before .before .pre .1 .0) (c .before .before .before .before .before .before .before .before .before .before .before .pre .1 .1) (c .before .before .before .before .before .before .before .if1 .left) (c .before .before .before .before .before .before .next-of .ensures .1) (omega (arith, c .before .before .before .before .before .stop-of .ensures .1)) (c .before .before .seek .ensures) refl
+returns-3 t c = test-less (c .before .before .before .before .before .before .before .before .before .before .before .before .pre .1 .0) (c .before .before .before .before .before .before .before .before .before .before .before .before .pre .1 .1) (c .before .before .before .before .before .before .before .if1 .left) (c .before .before .before .before .before .before .next-of .ensures .1) (omega (arith, c .before .before .before .before .before .stop-of .ensures .1)) (c .before .before .seek .ensures) refl
 
 pub proved : {M : Type 1} (t : ℕ) → lts.Closed (R t) (passes-at t) passes.Post M
 proved t = lts.spec (R t) (passes-at t) passes.Post (λ c. search needs) (λ c. search needs) (λ c κs. search needs) (λ c. search needs) (λ c. search needs) (λ c. search needs) (returns t) (λ c. search needs) (λ c κs. search needs) (λ c κs. search needs) (returns-2 t) (seek-requires t) (returns-3 t)

@@ -13,7 +13,7 @@ abbrev R : ℕ → lts.Claims
 R t = (fresh-below t, fresh.Post, put-front-reads.Asked, put-front-reads.Learnt)
 
 returns : (t : ℕ) → lts.Need-returns (R t) (renew-at t) renew.Post
-returns t c = stored (omega (arith, c .before .before .before .before .before .before .pre .1)) (c .before .before .fresh .ensures) (c .put-front .ensures)
+returns t c = stored (omega (arith, c .before .before .before .before .before .before .before .pre .1)) (c .before .before .fresh .ensures) (c .put-front .ensures)
 
 pub proved : {M : Type 1} (t : ℕ) → lts.Closed (R t) (renew-at t) renew.Post M
 proved t = lts.spec (R t) (renew-at t) renew.Post (λ c κs. search needs) (λ c κs. search needs) (returns t)

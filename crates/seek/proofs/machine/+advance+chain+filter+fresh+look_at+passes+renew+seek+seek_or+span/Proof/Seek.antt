@@ -17,7 +17,7 @@ sub-at : (t : ℕ) → lts.Need-sub-at (R t) (seek-at t) seek.Post
 sub-at t c = omega (arith, c .before .before .serves .ensures (c .before .if1 .taken) .live)
 
 returns : (t : ℕ) → lts.Need-returns (R t) (seek-at t) seek.Post
-returns t c = served (omega (arith, c .before .before .before .before .before .before .before .before .pre .1)) (c .before .before .before .before .serves .ensures (c .before .before .before .if1 .taken)) (c .at .ensures)
+returns t c = served (omega (arith, c .before .before .before .before .before .before .before .before .before .pre .1)) (c .before .before .before .before .serves .ensures (c .before .before .before .if1 .taken)) (c .at .ensures)
 
 returns-2 : (t : ℕ) → lts.Need-returns-2 (R t) (seek-at t) seek.Post
 returns-2 t c = c .renew .ensures

@@ -17,16 +17,16 @@ abbrev R : ℕ → lts.Claims
 R t = (stop-of-reads.Asked, stop-of-reads.Learnt, none-reads.Asked, none-reads.Learnt, seek-below t, seek.Post, better-reads.Asked, better-reads.Learnt, next-of-reads.Asked, next-of-reads.Learnt)
 
 abbrev Inv-loop : lts.InvT-loop
-Inv-loop rows words items st₀ v t stop c₀ best₀ st c best = OrInv (source words items) rows st₀ v t st c best × (v < c)
+Inv-loop rows words items sound st₀ v t stop c₀ best₀ st c best = OrInv (source words items sound) rows st₀ v t st c best × (v < c)
 
 abbrev μ-loop : lts.MeasureT-loop
-μ-loop rows words items st₀ v t stop c₀ best₀ st c best = 32 - c
+μ-loop rows words items sound st₀ v t stop c₀ best₀ st c best = 32 - c
 
 loop-holds : (t : ℕ) → lts.Need-loop-holds (R t) (seek-or-at t) seek-or.Post Inv-loop μ-loop
-loop-holds t c = (or-start (omega (arith, c .before .before .before .before .pre .1)) (c .none .ensures), omega arith)
+loop-holds t c = (or-start (omega (arith, c .before .before .before .before .before .pre .1)) (c .none .ensures), omega arith)
 
 loop-again : (t : ℕ) → lts.Need-loop-again (R t) (seek-or-at t) seek-or.Post Inv-loop μ-loop
-loop-again t c = (or-turn (omega (arith, c .before .before .before .before .before .before .before .before .before .before .pre .1)) (c .before .before .before .before .before .loop .inv .0) (omega (arith, c .before .before .before .before .before .before .before .stop-of .ensures .1)) (c .before .before .seek .ensures) (c .before .better .ensures) (c .next-of .ensures .1), omega (arith, c .next-of .ensures .0 .0 (omega arith)))
+loop-again t c = (or-turn (omega (arith, c .before .before .before .before .before .before .before .before .before .before .before .pre .1)) (c .before .before .before .before .before .loop .inv .0) (omega (arith, c .before .before .before .before .before .before .before .stop-of .ensures .1)) (c .before .before .seek .ensures) (c .before .better .ensures) (c .next-of .ensures .1), omega (arith, c .next-of .ensures .0 .0 (omega arith)))
 
 returns : (t : ℕ) → lts.Need-returns (R t) (seek-or-at t) seek-or.Post Inv-loop μ-loop
 returns t c = λ k. or-end (c .before .loop .inv .0) (omega (arith, c .before .before .before .stop-of .ensures .1)) k

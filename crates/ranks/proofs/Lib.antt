@@ -1,0 +1,5 @@
+pub mod Halves
+mod Before
+mod Indexing
+mod Counting
+pub mod Ranked
