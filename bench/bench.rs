@@ -136,6 +136,17 @@ fn dense_log(rng: &mut Rng) -> Vec<u8> {
     (0..3_000).flat_map(|_| format!("1,{},{},{},{}\n", of_two(), of_two(), of_two(), of_two()).into_bytes()).collect()
 }
 
+/// A full log of sound lines in spells of damaged ones, half of them with code 1.
+fn spelled_log(rng: &mut Rng) -> Vec<u8> {
+    let mut log = Vec::new();
+    while log.len() < reference::LOG_MAX {
+        log.extend(vec![b'\n'; rng.below(121)]);
+        log.extend(format!("1,4,{},3,6\n", rng.range(1, 2)).into_bytes());
+    }
+    log.truncate(reference::LOG_MAX);
+    log
+}
+
 /// The lines of a log in another order.
 fn shuffled(rng: &mut Rng, log: &[u8]) -> Vec<u8> {
     let mut lines: Vec<&[u8]> = log.split_inclusive(|&b| b == b'\n').collect();
@@ -180,6 +191,13 @@ fn main() {
     row("full log of line feeds", SIX, &vec![b'\n'; reference::LOG_MAX], 1);
     for part in [32, 16, 8, 4, 2, 1] {
         row(&format!("six operators, 1/{part} of a full log"), SIX, &full[..reference::LOG_MAX / part], 6_000);
+    }
+    // Each stretch has thousands of lines, and 42 to 71 sound ones.
+    let (spelled, over_long) = (spelled_log(&mut rng), format!("max,60,then,30{}", ",ev,1,0".repeat(30)));
+    row("full log, max over long stretches", &over_long, &spelled, 6_000);
+    row("the same without max", &over_long["max,60,".len()..], &spelled, 6_000);
+    for part in [8, 4, 2, 1] {
+        row(&format!("max over long, 1/{part} of a full log"), &over_long, &spelled[..reference::LOG_MAX / part], 6_000);
     }
     println!();
     println!("Picks, found being their number.");

@@ -140,12 +140,25 @@ impl Report<'_> {
     fn list(&mut self, listed: &[Stretch]) -> Result<(), Fault> {
         for &stretch in listed {
             let ends = self.paint.paint(CYAN, &format!("{}..{}", stretch.first, stretch.last));
-            writeln!(self.out, "{ends} ({})", lines(stretch.lines()))?;
+            let damage = self.damage(stretch)?;
+            writeln!(self.out, "{ends} ({}{damage})", lines(stretch.lines()))?;
             if self.form == Form::Show {
                 self.show(stretch)?;
             }
         }
         Ok(())
+    }
+
+    /// How many lines of a stretch are damaged, where some are: `max` does not count them.
+    fn damage(&self, stretch: Stretch) -> Result<String, Fault> {
+        if self.count.damaged == 0 {
+            return Ok(String::new());
+        }
+        match calls::count(calls::lines_of(self.log, stretch)) {
+            Ok(held) if held.damaged == 0 => Ok(String::new()),
+            Ok(held) => Ok(format!(", {} damaged", grouped(held.damaged as u64))),
+            Err(_) => Err(Fault::Failed("internal error: the lines of a stretch are not counted".into())),
+        }
     }
 
     /// The lines of a stretch, numbered, damaged ones marked.

@@ -5,6 +5,7 @@ mod inputs;
 mod piped;
 mod quick;
 mod reference;
+mod spell_inputs;
 
 use inputs::Rng;
 use reference::{List, Refusal, LOG_MAX, PATTERN_MAX};
@@ -88,7 +89,12 @@ fn found(list: &List, log: &[u8], k: Option<usize>) -> Printed {
     let unended = lines.last().filter(|line| !line.ends_with(b"\n")).map_or("", |_| " (the last line has no line feed)");
     let mut text = format!("{all}, {} damaged{unended}; {answers}{picked} (lines count from 0)\n", grouped(damaged));
     for stretch in &listed {
-        text += &format!("{}..{} ({})\n", stretch.s, stretch.e, of((stretch.e - stretch.s + 1) as usize, "line", "lines"));
+        let held = &lines[stretch.s as usize..=stretch.e as usize];
+        let broken = match held.iter().filter(|line| reference::record(line).is_none()).count() {
+            0 => String::new(),
+            n => format!(", {} damaged", grouped(n)),
+        };
+        text += &format!("{}..{} ({}{broken})\n", stretch.s, stretch.e, of(held.len(), "line", "lines"));
         for number in stretch.s..=stretch.e {
             text += &format!("{number:8}  {}\n", shown(lines[number as usize]));
         }
@@ -98,8 +104,13 @@ fn found(list: &List, log: &[u8], k: Option<usize>) -> Printed {
     Printed(Some(i32::from(list.is_empty())), text, said.into())
 }
 
-/// A pattern that can be an argument, and a log; also around the bounds.
+/// A pattern that can be an argument, and a log; also around the bounds, and with spells of damaged lines.
 fn random(rng: &mut Rng) -> (Vec<u8>, Vec<u8>) {
+    if rng.once_in(4) {
+        let lines = rng.below(14);
+        let log = spell_inputs::spelled(rng, lines, LOG_MAX);
+        return (spell_inputs::with_max(rng, &log).spell().into_bytes(), log);
+    }
     let mut pattern = if rng.once_in(3) { inputs::pattern(rng) } else { inputs::tree(rng, 12, 5).spell().into_bytes() };
     if rng.once_in(30) {
         pattern.resize(rng.pick(&[PATTERN_MAX, PATTERN_MAX + 1, 4_096]), b',');

@@ -3,6 +3,7 @@
 use crate::calls::Calls;
 use crate::inputs::Rng;
 use crate::lent::{self, Taken};
+use crate::quick;
 use crate::reference::{self, List, Picks, Refusal, Stretch};
 
 /// Nothing, or the report of a difference.
@@ -180,6 +181,22 @@ impl<'a> Search<'a> {
     }
 }
 
+/// A worked case: reference and quick both give what is due, and filling, steps and picks hand it back. Gives the number of calls.
+pub fn case(calls: &dyn Calls, rng: &mut Rng, pattern: &str, log: &str, due: Result<List, Refusal>) -> Result<usize, String> {
+    let (pattern, log) = (pattern.as_bytes(), log.as_bytes());
+    for answers in [reference::answers(pattern, log), quick::answers(pattern, log)] {
+        if answers != due {
+            let input = format!("pattern {}\n  log {}", show(pattern), show(log));
+            return Err(format!("by reference {answers:?}, should be {due:?}\n  {input}"));
+        }
+    }
+    let cells = 2 * reference::lines(log).len() + 1;
+    fill(calls, rng, pattern, log, &due, cells, 0)?;
+    steps(calls, rng, pattern, log, &due, cells)?;
+    pick(calls, rng, pattern, log, &due, (16, 32), reference::picks)?;
+    Ok(3)
+}
+
 /// The picks of a call, of an accepted k, held to its own list: answers of which no two share a line, each the first in picking order of
 /// those that remain, and fewer than k only where none remains or no whole pair of cells is left.
 pub fn pick_laws(calls: &dyn Calls, pattern: &[u8], log: &[u8], (k, cells): (u32, usize)) -> Checked {
@@ -203,17 +220,19 @@ pub fn pick_laws(calls: &dyn Calls, pattern: &[u8], log: &[u8], (k, cells): (u32
     law(written == k as usize || written == cells / 2 || remaining.is_empty(), "an answer remains that was not picked")
 }
 
-/// Leaves out parts of a log's lines as long as `differs` still reports; at most 200 tries.
+/// Leaves out parts of a log's lines as long as `differs` still reports; at most 200 tries, fewer of long logs.
 fn shorten(log: &[u8], differs: impl Fn(&[u8]) -> Checked) -> Checked {
     let mut kept = reference::lines(log);
     let mut report = differs(log);
-    let (mut part, mut tries) = (kept.len().div_ceil(2), 0);
+    let (mut part, mut tries, mut bytes) = (kept.len().div_ceil(2), 0, 0);
     while part > 0 && report.is_err() {
         let mut at = 0;
-        while at < kept.len() && tries < 200 {
-            tries += 1;
+        while at < kept.len() && tries < 200 && bytes < 500_000 {
             let fewer = [&kept[..at], &kept[(at + part).min(kept.len())..]].concat();
-            match differs(&fewer.concat()) {
+            let log = fewer.concat();
+            tries += 1;
+            bytes += log.len();
+            match differs(&log) {
                 Err(still) => (kept, report) = (fewer, Err(still)),
                 Ok(()) => at += part,
             }

@@ -6,6 +6,7 @@ use crate::pick_faults;
 use crate::plain::{Plain, RIGHT};
 use crate::quick;
 use crate::reference::{self as r, refused, Apply, List, Op, Record, Refusal, Stretch, Tree, LOG_MAX};
+use crate::spell_faults;
 use std::cmp::Reverse;
 
 /// Short enough for the literal definitions.
@@ -100,6 +101,7 @@ pub fn variants() -> Vec<(&'static str, Plain)> {
     let mut all = over_meaning();
     all.extend(over_reading());
     all.extend(lane_faults::variants());
+    all.extend(spell_faults::variants());
     all.extend(over_handing_back());
     all.extend(over_steps());
     all.extend(over_log_alone());
@@ -113,54 +115,54 @@ fn over_meaning() -> Vec<(&'static str, Plain)> {
     vec![
         (
             "then overlapping by a line",
-            apply(|op, k, lists| match op {
+            apply(|op, k, lists, m| match op {
                 Op::Then if short(lists) => r::minimal(r::spans(lists, |a, b| b.s >= a.e)),
-                _ => quick::apply(op, k, lists),
+                _ => quick::apply(op, k, lists, m),
             }),
         ),
         (
             "row joining across a line",
-            apply(|op, k, lists| match op {
+            apply(|op, k, lists, m| match op {
                 Op::Row if short(lists) => r::minimal(r::spans(lists, |a, b| b.s == a.e + 1 || b.s == a.e + 2)),
-                _ => quick::apply(op, k, lists),
+                _ => quick::apply(op, k, lists, m),
             }),
         ),
         (
             "or dropping only repeats",
-            apply(|op, k, lists| match op {
+            apply(|op, k, lists, m| match op {
                 Op::Or => {
                     let mut all = lists.concat();
                     all.sort_by_key(|a| (a.e, Reverse(a.s)));
                     all.dedup();
                     all
                 }
-                _ => quick::apply(op, k, lists),
+                _ => quick::apply(op, k, lists, m),
             }),
         ),
         (
             "and handed out before a later item shortens it",
-            apply(|op, k, lists| match op {
+            apply(|op, k, lists, m| match op {
                 Op::And => hasty_and(lists),
-                _ => quick::apply(op, k, lists),
+                _ => quick::apply(op, k, lists, m),
             }),
         ),
         (
             "less keeping a stretch equal to one of B",
-            apply(|op, k, lists| match op {
+            apply(|op, k, lists, m| match op {
                 Op::Less if short(lists) => {
                     let holds = |a: Stretch| lists[1].iter().any(|&b| b != a && r::inside(b, a));
                     lists[0].iter().copied().filter(|&a| !holds(a)).collect()
                 }
-                _ => quick::apply(op, k, lists),
+                _ => quick::apply(op, k, lists, m),
             }),
         ),
-        ("max a line too long", apply(|op, k, lists| quick::apply(op, if op == Op::Max { k + 1 } else { k }, lists))),
+        ("max a line too long", apply(|op, k, lists, m| quick::apply(op, if op == Op::Max { k + 1 } else { k }, lists, m))),
         (
             "row and then exchanged",
-            apply(|op, k, lists| match op {
-                Op::Row => quick::apply(Op::Then, k, lists),
-                Op::Then => quick::apply(Op::Row, k, lists),
-                _ => quick::apply(op, k, lists),
+            apply(|op, k, lists, m| match op {
+                Op::Row => quick::apply(Op::Then, k, lists, m),
+                Op::Then => quick::apply(Op::Row, k, lists, m),
+                _ => quick::apply(op, k, lists, m),
             }),
         ),
         ("and without line 8", Plain { take_and: |lists, p| other_and(lists, p, false, false), ..RIGHT }),

@@ -205,28 +205,30 @@ pub fn with_lanes(log: &[u8], spell: impl Fn(u32) -> String) -> Vec<u8> {
     reference::lines(log).into_iter().flat_map(line).collect()
 }
 
+/// Damaged lines of every kind.
+pub const WRECKS: [&str; 18] = [
+    "\n",
+    "oops\n",
+    "\r\n",
+    "1,4,7,3,6\r\n",
+    "1,4,7,3\n",
+    "2,4,7,3,6\n",
+    "1,4,7,20,3,6\n",
+    " 1,4,7,3,6\n",
+    "1,00,7,3,6\n",
+    "2,012,7,20,3,6\n",
+    "1,099,7,3,6\n",
+    "1,004,7,3,6\n",
+    "2,0,7,20,3,6\n",
+    "01,4,7,3,6\n",
+    "1,4,07,3,6\n",
+    "2,4,7,020,3,6\n",
+    "1,4,7,03,6\n",
+    "1,4,7,3,06\n",
+];
+
 /// About `lines` lines, one in `damage` of them spoiled (0: none); sometimes the last is not ended.
 pub fn log(rng: &mut Rng, lines: usize, damage: usize) -> Vec<u8> {
-    const WRECKS: [&str; 18] = [
-        "\n",
-        "oops\n",
-        "\r\n",
-        "1,4,7,3,6\r\n",
-        "1,4,7,3\n",
-        "2,4,7,3,6\n",
-        "1,4,7,20,3,6\n",
-        " 1,4,7,3,6\n",
-        "1,00,7,3,6\n",
-        "2,012,7,20,3,6\n",
-        "1,099,7,3,6\n",
-        "1,004,7,3,6\n",
-        "2,0,7,20,3,6\n",
-        "01,4,7,3,6\n",
-        "1,4,07,3,6\n",
-        "2,4,7,020,3,6\n",
-        "1,4,7,03,6\n",
-        "1,4,7,3,06\n",
-    ];
     let mut log = Vec::new();
     for _ in 0..lines {
         let mut text = line(rng).into_bytes();

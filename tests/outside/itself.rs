@@ -79,8 +79,8 @@ pub fn reference(t: &Trial) -> Outcome {
         };
         let lists: Vec<List> = (0..n).map(|_| inputs::list(&mut rng, 7, 25)).collect();
         let input = || format!("{op:?} {lists:?}");
-        let literal = reference::apply(op, 3, &lists);
-        agree("lists literal and quick", &literal, &quick::apply(op, 3, &lists), input)?;
+        let literal = reference::apply(op, 3, &lists, &reference::length);
+        agree("lists literal and quick", &literal, &quick::apply(op, 3, &lists, reference::length), input)?;
         for p in 0..literal.len() as u64 + 2 {
             let answer = literal.get(p as usize).copied();
             if op == Op::Or {
@@ -147,7 +147,7 @@ pub fn cases(t: &Trial) -> Outcome {
     ];
     for (op, k, lists, due) in over_lists {
         let (items, ends) = inputs::lend(&lists);
-        agree("a worked case", &due, &reference::apply(op, k, &lists), || format!("{op:?} {lists:?}"))?;
+        agree("a worked case", &due, &reference::apply(op, k, &lists, &reference::length), || format!("{op:?} {lists:?}"))?;
         let lent = Lists { op: op as u32, k, items: &items, ends: &ends };
         compare::lists_fill(t.calls, &mut rng, &lent, &Ok(due.clone()), 2 * due.len() + 1, 0)?;
         count += 1;

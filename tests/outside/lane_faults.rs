@@ -7,7 +7,7 @@ use std::cell::Cell;
 
 /// Lines read with a field exchanged, where `change` gives its place and another text: layout, lane, code and so on, the last with the line
 /// feed.
-fn changed(log: &[u8], change: impl for<'a> Fn(&[&'a str]) -> Option<(usize, &'a str)>) -> Vec<Option<Record>> {
+pub fn changed(log: &[u8], change: impl for<'a> Fn(&[&'a str]) -> Option<(usize, &'a str)>) -> Vec<Option<Record>> {
     let line = |line: &[u8]| {
         let text = String::from_utf8_lossy(line);
         let mut fields: Vec<&str> = text.split(',').collect();
@@ -21,7 +21,7 @@ fn changed(log: &[u8], change: impl for<'a> Fn(&[&'a str]) -> Option<(usize, &'a
 }
 
 /// Whether a lane field is padded.
-fn is_padded(lane: &str) -> bool {
+pub fn is_padded(lane: &str) -> bool {
     matches!(lane.as_bytes(), [b'0', b'1'..=b'9'])
 }
 

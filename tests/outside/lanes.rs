@@ -5,7 +5,7 @@ use crate::compare;
 use crate::inputs::{self, Rng};
 use crate::over_logs::SOUND;
 use crate::reference::{self, List, Refusal, Stretch};
-use crate::{quick, Outcome, Trial};
+use crate::{Outcome, Trial};
 
 /// Texts; the lane that each says in a line, or None where the line is damaged; and the lane in `ev,7,TEXT`, or the place where that is
 /// misspelt.
@@ -63,18 +63,8 @@ const RUN_LOG: [&str; 7] = ["1,4,7,1,0\n", "1,04,9,1,0\n", "1,04,7,2,0\n", "oops
 pub fn cases(t: &Trial) -> Outcome {
     let mut rng = Rng(15);
     let mut count = 0;
-    let mut check = |pattern: &str, log: &str, due: Result<List, Refusal>| {
-        let (pattern, log) = (pattern.as_bytes(), log.as_bytes());
-        for answers in [reference::answers(pattern, log), quick::answers(pattern, log)] {
-            if answers != due {
-                return Err(format!("by reference {answers:?}, should be {due:?}\n  pattern {}", compare::show(pattern)));
-            }
-        }
-        let cells = 2 * reference::lines(log).len() + 1;
-        compare::fill(t.calls, &mut rng, pattern, log, &due, cells, 0)?;
-        compare::steps(t.calls, &mut rng, pattern, log, &due, cells)?;
-        compare::pick(t.calls, &mut rng, pattern, log, &due, (16, 32), reference::picks)?;
-        count += 3;
+    let mut check = |pattern: &str, log: &str, due: Result<List, Refusal>| -> compare::Checked {
+        count += compare::case(t.calls, &mut rng, pattern, log, due)?;
         Ok(())
     };
 

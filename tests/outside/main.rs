@@ -3,6 +3,7 @@
 
 mod calls;
 mod compare;
+mod damaged_spells;
 mod faults;
 mod inputs;
 mod itself;
@@ -17,6 +18,11 @@ mod picking;
 mod plain;
 mod quick;
 mod reference;
+mod spell_faults;
+mod spell_inputs;
+mod worked_spells;
+
+use std::collections::BTreeSet;
 
 /// The calls on trial, and the part of each group's rounds that is run (1: all, 10: a tenth).
 pub struct Trial<'a> {
@@ -37,7 +43,7 @@ pub type Outcome = Result<usize, String>;
 type Group = (&'static str, fn(&Trial) -> Outcome);
 
 /// Groups that try the calls on seeded inputs.
-const SEEDED: [Group; 17] = [
+const SEEDED: [Group; 22] = [
     ("patterns", over_logs::patterns),
     ("lines", over_logs::lines),
     ("logs", over_logs::logs),
@@ -46,6 +52,11 @@ const SEEDED: [Group; 17] = [
     ("runs", over_logs::runs),
     ("steps", over_logs::steps),
     ("padding", lanes::padding),
+    ("damaged spells", damaged_spells::measures),
+    ("long spells", damaged_spells::long),
+    ("spells put in", damaged_spells::put_in),
+    ("runs with spells", damaged_spells::runs),
+    ("long lists", damaged_spells::over_lists),
     ("counts", log_alone::counts),
     ("parts", log_alone::parts),
     ("lists", over_lists::lists),
@@ -57,10 +68,11 @@ const SEEDED: [Group; 17] = [
     ("laws of picks", picking::laws),
 ];
 
-const FIXED: [Group; 6] = [
+const FIXED: [Group; 7] = [
     ("reference", itself::reference),
     ("worked cases", itself::cases),
     ("lane fields", lanes::cases),
+    ("worked spells", worked_spells::cases),
     ("samples", over_logs::samples),
     ("log alone", log_alone::cases),
     ("worked picks", picking::cases),
@@ -95,9 +107,11 @@ fn selftest() -> usize {
     failed.extend(SEEDED.iter().find_map(|group| report(&plain::RIGHT, group)));
     // The group that caught the last one goes first: variants of one call stand together.
     let mut groups: Vec<&Group> = SEEDED.iter().collect();
+    let mut busy = BTreeSet::new();
     for (fault, plain) in &variants {
         match groups.iter().enumerate().find_map(|(at, group)| report(plain, group).map(|report| (at, report))) {
             Some((at, report)) => {
+                busy.insert(groups[at].0);
                 groups[..=at].rotate_right(1);
                 if verbose {
                     println!("{fault}: caught by {report}");
@@ -106,7 +120,8 @@ fn selftest() -> usize {
             None => failed.push(format!("not caught: {fault}")),
         }
     }
-    let idle = SEEDED.iter().filter(|group| !variants.iter().any(|(_, plain)| report(plain, group).is_some()));
+    let others = SEEDED.iter().filter(|(name, _)| !busy.contains(name));
+    let idle = others.filter(|group| !variants.iter().any(|(_, plain)| report(plain, group).is_some()));
     failed.extend(idle.map(|(name, _)| format!("{name} catches nothing")));
     failed.iter().for_each(|what| println!("selftest: FAILED: {what}"));
     println!("selftest: {} wrong variants caught, {} failures", variants.len(), failed.len());

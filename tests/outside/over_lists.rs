@@ -25,7 +25,7 @@ fn random_lists(rng: &mut Rng, op: Op) -> Vec<List> {
 
 /// The answers over lent lists by the reference, literally or quickly.
 fn answers(lent: &Lists, apply: reference::Apply) -> Result<List, Refusal> {
-    lent::read_lists(lent.op, lent.k, lent.items, lent.ends).map(|(op, lists)| apply(op, lent.k, &lists))
+    lent::read_lists(lent.op, lent.k, lent.items, lent.ends).map(|(op, lists)| apply(op, lent.k, &lists, &reference::length))
 }
 
 /// Accepted lists under every operator, with all cells and starts around the number of answers; and long lists.
@@ -54,7 +54,7 @@ pub fn lists(t: &Trial) -> Outcome {
         let (items, ends) = inputs::lend(&lists);
         let k = if op == Op::Max { 3 } else { 0 };
         let lent = Lists { op: op as u32, k, items: &items, ends: &ends };
-        let due = answers(&lent, quick::apply);
+        let due = answers(&lent, |op, k, lists, measure| quick::apply(op, k, lists, measure));
         let n = due.as_ref().map_or(0, List::len);
         for (cells, from) in [(2 * n + 1, 0), (2 * n, 1), (9, n as u64 / 2)] {
             compare::lists_fill(t.calls, &mut rng, &lent, &due, cells, from)?;
@@ -152,7 +152,7 @@ pub fn taking(t: &Trial) -> Outcome {
         }
         let (items, ends) = inputs::lend(&lists);
         let lent = Lists { op: op as u32, k: 0, items: &items, ends: &ends };
-        let n = reference::apply(op, 0, &lists).len() as u64;
+        let n = reference::apply(op, 0, &lists, &reference::length).len() as u64;
         for number in (0..n + 2).chain([1 << 32, u64::MAX]) {
             let cells = lists.len() + rng.pick(&[0, 0, 1, 3]);
             compare::take(t.calls, &mut rng, &lent, &taken(&lent, cells, number), cells, number)?;

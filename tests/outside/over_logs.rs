@@ -2,7 +2,7 @@
 
 use crate::compare::{self, Checked, Search};
 use crate::inputs::{self, Rng};
-use crate::reference::{self, List, Stretch, LOG_MAX, PATTERN_MAX};
+use crate::reference::{self, List, Op, Stretch, Tree, LOG_MAX, PATTERN_MAX};
 use crate::{quick, Outcome, Trial};
 
 /// The log of docs/FORMATS.md, "The printed sheet".
@@ -226,13 +226,17 @@ pub fn steps(t: &Trial) -> Outcome {
     Ok(count)
 }
 
-/// The sample log with each sample pattern.
+/// The sample log with each sample pattern; `max` keeps a stretch that it would lose if damaged lines counted.
 pub fn samples(t: &Trial) -> Outcome {
     let log = std::fs::read("samples/evening.log").map_err(|e| e.to_string())?;
     let patterns = std::fs::read_to_string("samples/patterns.txt").map_err(|e| e.to_string())?;
     let mut count = 0;
+    let mut shown = false;
     for pattern in patterns.lines().filter(|l| !l.is_empty() && !l.starts_with('#')) {
         let search = Search::new(t.calls, pattern.as_bytes(), &log, quick::answers);
+        if let Ok(Tree::Op { op: Op::Max, k, .. }) = reference::read_pattern(pattern.as_bytes()) {
+            shown |= compare::whole(t.calls, pattern.as_bytes(), &log).is_ok_and(|list| list.iter().any(|&a| reference::length(a) > k));
+        }
         if search.found() == 0 {
             return Err(format!("the sample pattern {pattern} finds nothing"));
         }
@@ -240,6 +244,9 @@ pub fn samples(t: &Trial) -> Outcome {
         search.steps(&mut Rng(7), 2 * search.found() + 1)?;
         search.pick(&mut Rng(7), (16, 33), quick::picks)?;
         count += 3;
+    }
+    if !shown {
+        return Err("no sample pattern with max finds a stretch of more lines than k".into());
     }
     Ok(count)
 }

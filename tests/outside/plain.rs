@@ -3,20 +3,32 @@
 use crate::calls::Calls;
 use crate::lent::{self, Taken};
 use crate::quick;
-use crate::reference::{self as r, refused, Apply, List, Op, Record, Refusal, Tree, LOG_MAX};
+use crate::reference::{self as r, refused, Apply, List, Op, Record, Refusal, Stretch, Tree, LOG_MAX};
+
+/// The calls over a pattern and a log.
+#[derive(Clone, Copy, PartialEq, Eq)]
+pub enum Call {
+    Fill,
+    Steps,
+    Pick,
+}
 
 #[derive(Clone, Copy)]
 pub struct Plain {
     pub accept: fn(&Plain, &[u8], &[u8]) -> Result<Tree, Refusal>,
     pub pattern: fn(&[u8]) -> Result<Tree, Refusal>,
     pub log: fn(&[u8]) -> Vec<Option<Record>>,
+    pub list: fn(&Plain, Call, &Tree, &[u8]) -> List,
     pub apply: Apply,
+    pub sound_lines: fn(&[Option<Record>], Stretch) -> u32,
+    pub over_lists: fn(&Plain, Op, u32, &[List]) -> List,
     pub lists: fn(u32, u32, &[u32], &[u32]) -> Result<(Op, Vec<List>), Refusal>,
     pub take_or: fn(&[List], u64) -> Taken,
     pub take_and: fn(&[List], u64) -> Taken,
     pub fill: fn(&Result<List, Refusal>, &mut [u32], u64) -> u64,
     pub steps: fn(&Result<List, Refusal>, &mut [u32]) -> u64,
     pub pick: fn(&Result<List, Refusal>, u32, &mut [u32]) -> u64,
+    pub pick_in: fn(&Plain, &[u8], &Result<List, Refusal>, u32, &mut [u32]) -> u64,
     pub take: fn(&Result<Taken, Refusal>, &mut [u32]) -> u64,
     pub count: fn(&[u8]) -> u64,
     pub lines: fn(&[u8], u32, u32) -> u64,
@@ -27,39 +39,46 @@ pub const RIGHT: Plain = Plain {
     accept: |parts, pattern, log| if log.len() > LOG_MAX { refused(1) } else { (parts.pattern)(pattern) },
     pattern: r::read_pattern,
     log: r::read_log,
-    apply: quick::apply,
+    list: |parts, _, tree, log| {
+        let lines = (parts.log)(log);
+        r::evaluate(tree, &lines, parts.apply, &|a| (parts.sound_lines)(&lines, a))
+    },
+    apply: |op, k, lists, measure| quick::apply(op, k, lists, measure),
+    sound_lines: r::sound_lines,
+    over_lists: |parts, op, k, lists| (parts.apply)(op, k, lists, &r::length),
     lists: lent::read_lists,
     take_or: lent::take_or_by_algorithm,
     take_and: lent::take_and,
     fill: r::fill,
     steps: r::steps,
     pick: |answers, k, cells| r::pick(answers, k, cells, quick::picks),
+    pick_in: |parts, _, answers, k, cells| (parts.pick)(answers, k, cells),
     take: lent::take,
     count: r::count,
     lines: |log, first, last| r::part_result(r::part(log, first, last)),
 };
 
 impl Plain {
-    fn answers(&self, pattern: &[u8], log: &[u8]) -> Result<List, Refusal> {
-        (self.accept)(self, pattern, log).map(|tree| r::evaluate(&tree, &(self.log)(log), self.apply))
+    fn answers(&self, call: Call, pattern: &[u8], log: &[u8]) -> Result<List, Refusal> {
+        (self.accept)(self, pattern, log).map(|tree| (self.list)(self, call, &tree, log))
     }
 }
 
 impl Calls for Plain {
     fn fill(&self, pattern: &[u8], log: &[u8], cells: &mut [u32], from: u64) -> u64 {
-        (self.fill)(&self.answers(pattern, log), cells, from)
+        (self.fill)(&self.answers(Call::Fill, pattern, log), cells, from)
     }
 
     fn steps(&self, pattern: &[u8], log: &[u8], cells: &mut [u32]) -> u64 {
-        (self.steps)(&self.answers(pattern, log), cells)
+        (self.steps)(&self.answers(Call::Steps, pattern, log), cells)
     }
 
     fn pick(&self, pattern: &[u8], log: &[u8], k: u32, cells: &mut [u32]) -> u64 {
-        (self.pick)(&self.answers(pattern, log), k, cells)
+        (self.pick_in)(self, log, &self.answers(Call::Pick, pattern, log), k, cells)
     }
 
     fn lists_fill(&self, op: u32, k: u32, items: &[u32], ends: &[u32], cells: &mut [u32], from: u64) -> u64 {
-        let answers = (self.lists)(op, k, items, ends).map(|(op, lists)| (self.apply)(op, k, &lists));
+        let answers = (self.lists)(op, k, items, ends).map(|(op, lists)| (self.over_lists)(self, op, k, &lists));
         (self.fill)(&answers, cells, from)
     }
 

@@ -4,6 +4,7 @@ mod inputs;
 mod piped;
 mod quick;
 mod reference;
+mod spell_inputs;
 
 use inputs::Rng;
 use reference::{LOG_MAX, PATTERN_MAX};
@@ -36,6 +37,9 @@ fn known() -> Vec<(Vec<u8>, &'static str)> {
         ("ev,1,4\n1,04,1,0,0\n2,4,1,0,0,0\n2,04,1,0,0,0\n".into(), "F,3,0,3\n0,0\n1,1\n2,2\n"),
         ("ev,1,0\n1,00,1,0,0\n2,012,1,0,0,0\n1,4,01,0,0\n".into(), "F,3,3,0\n"),
         ("ev,1,04\n1,04,1,0,0\n".into(), "R,3,6\n"),
+        ("max,2,then,2,ev,7,0,ev,9,0\n1,4,7,3,6\noops\n\n1,4,9,0,0\n".into(), "F,4,2,1\n0,3\n"),
+        ("max,1,then,2,ev,7,0,ev,9,0\n1,4,7,3,6\noops\n\n1,4,9,0,0\n".into(), "F,4,2,0\n"),
+        ("max,2,row,2,ev,7,0,ev,9,0\n1,4,7,3,6\noops\n1,4,9,0,0\n".into(), "F,3,1,0\n"),
         ("ev,1,0\r\n1,4,1,0,0\n".into(), "R,3,6\n"),
         ("ev,256,0".into(), "R,3,5\n"),
         (over(LOG_MAX + 1).into(), "R,1,0\n"),
@@ -53,8 +57,18 @@ fn known() -> Vec<(Vec<u8>, &'static str)> {
     ]
 }
 
+/// A pattern with `max`, and a log with spells of damaged lines.
+fn spells(rng: &mut Rng) -> Vec<u8> {
+    let lines = rng.below(14);
+    let log = spell_inputs::spelled(rng, lines, LOG_MAX);
+    [spell_inputs::with_max(rng, &log).spell().as_bytes(), b"\n", &log].concat()
+}
+
 /// Pattern and log of random sizes, also around the bounds.
 fn random(rng: &mut Rng) -> Vec<u8> {
+    if rng.once_in(4) {
+        return spells(rng);
+    }
     let mut input = if rng.once_in(3) { inputs::pattern(rng) } else { inputs::tree(rng, 20, 7).spell().into_bytes() };
     if rng.once_in(30) {
         input.resize(rng.pick(&[PATTERN_MAX, PATTERN_MAX + 1, 4_096, 65_536, 100_000]), b',');
