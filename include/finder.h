@@ -8,7 +8,7 @@
    keeps no pointer and no state, allocates nothing and always returns; any number of threads may call at once.
 
    Lines of a log count from 0. A stretch is given by its first and last line, both included. A damaged line fits no layout: it keeps its
-   number and matches nothing. A log may have lanes 1 to 9 with one leading zero, a pattern may not.
+   number, matches nothing, and is not counted by max. A log may have lanes 1 to 9 with one leading zero, a pattern may not.
 
    Cost: the time of a call over a log grows with the log's length and no faster. For an evening of 3,000 lines finder_fill takes tens of
    microseconds, with the worst patterns some hundreds; finder_count takes some 20, finder_lines up to some 35 for the last lines and
@@ -20,9 +20,9 @@
 #include <stddef.h>
 #include <stdint.h>
 
-#define FINDER_VERSION "1.2.0"
+#define FINDER_VERSION "1.3.0"
 #define FINDER_VERSION_MAJOR 1
-#define FINDER_VERSION_MINOR 2
+#define FINDER_VERSION_MINOR 3
 #define FINDER_VERSION_PATCH 0
 
 #ifdef __cplusplus
@@ -38,11 +38,11 @@ enum {
     FINDER_PICKS_MAX = 16,       /* picks of a call, k of finder_pick */
     FINDER_LISTS_MAX = 31,       /* lists of a call over lists */
     FINDER_POSITION_MAX = 65535, /* a start or an end in a list */
-    FINDER_BOUND_MAX = 65535     /* k of max */
+    FINDER_BOUND_MAX = 65535     /* k of max: sound lines in a log, lines over lists */
 };
 
 /* The stack that is enough for a call, in bytes: FINDER_STACK_FILL for finder_fill and finder_pick, FINDER_STACK_OTHERS for every other.
-   Measured, these two take some 260,000, whatever the log, finder_count 7,600, finder_lists_fill 2,600, finder_lines and
+   Measured, these two take some 275,000, whatever the log, finder_count 7,600, finder_lists_fill 2,600, finder_lines and
    finder_lists_take less than 600; in a program's first call the dynamic linker takes up to 3,300 more. */
 enum { FINDER_STACK_FILL = 320 * 1024, FINDER_STACK_OTHERS = 16 * 1024 };
 
