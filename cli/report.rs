@@ -155,6 +155,7 @@ impl Report<'_> {
             return Ok(String::new());
         }
         match calls::count(calls::lines_of(self.log, stretch)) {
+            Ok(held) if held.lines != stretch.lines() => Err(Fault::Failed("internal error: a stretch lacks lines".into())),
             Ok(held) if held.damaged == 0 => Ok(String::new()),
             Ok(held) => Ok(format!(", {} damaged", grouped(held.damaged as u64))),
             Err(_) => Err(Fault::Failed("internal error: the lines of a stretch are not counted".into())),

@@ -318,8 +318,8 @@ module _ (rows log : List ℕ) (w : ℕ) (words sound : List ℕ) (wide : length
 -- in words with room the machine's table is fine, and its list is the one that the pattern's table has in the log
 module _ (rows log : List ℕ) (w : ℕ) (words sound : List ℕ) (h : Roomy rows log w words sound) where
   -- the words that are lent to the row of the sound lines
-  pub sound-room : (n : ℕ) → (n ≡ soundWords rows w) × (n ≤ w + w) → (n ≤ length sound) × (length (take n sound) ≡ soundWords rows w)
-  sound-room n e = (omega (arith, e .1, h .4), length-take-le n sound (omega (arith, e .1, h .4)) ∙ e .0)
+  pub sound-room : (n : ℕ) → (n ≡ soundWords rows w) × (n ≤ w + w) → (n ≡ length (take n sound)) × (length (take n sound) ≡ soundWords rows w)
+  sound-room n e = let z = length-take-le n sound (omega (arith, e .1, h .4)) in (sym z, z ∙ e .0)
 
   -- and what the machine reads of them afterwards
   pub sound-again : (n : ℕ) → (n ≡ soundWords rows w) × (n ≤ w + w) → (kept : List ℕ) → kept ≡ preparedSound rows log w words (take n sound)
@@ -327,7 +327,7 @@ module _ (rows log : List ℕ) (w : ℕ) (words sound : List ℕ) (h : Roomy row
   unfolding preparedSound
   sound-again n e kept k =
       let long : length kept ≡ n = ap length k ∙ cases (fit (leavesOf rows .count) w (length words)) (λ b. length (cond b (soundMarked (says log) (take n sound)) (take n sound)) ≡ length (take n sound))
-      (λ _. sound-length (says log) (take n sound)) (λ _. refl) ∙ length-take-le n sound (sound-room n e .0) in
+      (λ _. sound-length (says log) (take n sound)) (λ _. refl) ∙ sym (sound-room n e .0) in
       let z = take-at kept (drop n sound) n long in
       (sym (ap length z ∙ long), z ∙ k)
 
