@@ -1,6 +1,6 @@
 -- What each return of `read_both` shows, and the list of an accepted pattern's table. Assumes nothing.
 use Prim.Native.Nat.{ℕ, _≤_, _<_}
-use mathlib.Core.Path.{_≡_, refl, sym, ap, _∙_}
+use mathlib.Core.Path.{_≡_, refl, sym, ap, subst, _∙_}
 use mathlib.Core.Bool.{cond}
 use mathlib.Core.List.{List}
 use lib.ListN.{length, replicate}
@@ -8,12 +8,13 @@ use borrow.Author.Tests.{lt-ltb, le-ltb}
 use Rattle.pattern.specs.Answer.{numberOf, placeOf}
 use Rattle.pattern.specs.Reading as pattern
 use Rattle.pattern.specs.Reading.{Outcome, Accepts, Refuses, outcomeOf, numberIn, placeIn, tableOf}
-use Rattle.pattern.specs.Rows.{rowsOf}
+use Rattle.pattern.specs.Pattern.{Pattern, nodes}
+use Rattle.pattern.specs.Rows.{Tree}
 use Rattle.pattern.specs.declared.Parsed.{Parsed}
 use Rattle.pattern.specs.declared.Table.{Table}
 use Rattle.pattern.proofs.Outcomes.{accepts-spells}
 use Rattle.pattern.proofs.Rows.{table-tree}
-use Rattle.meaning.specs.Meaning.{tableIn}
+use Rattle.meaning.specs.Meaning.{answersIn, tableIn}
 use Rattle.meaning.specs.Refusals.{Refusal, refused, refusal}
 use Rattle.meaning.specs.Finding.{listOf}
 use Rattle.meaning.proofs.Finding.{long-log, bad-pattern, good-pattern, accepted-list, accepted-number}
@@ -43,10 +44,28 @@ module _ (text log : List ℕ) where
       says (Accepts q) k = good-pattern text log q h k ∙ sym (ap (λ (o : Outcome). refused (numberIn o) (placeIn o)) k)
       says (Refuses m q) k = bad-pattern text log m q h k ∙ sym (ap (λ (o : Outcome). refused (numberIn o) (placeIn o)) k)
 
-  -- the list of an accepted pattern's table is the pattern's
-  pub table-list : refusal text log .number ≡ 0 → tableIn (rowsIn text log) log ≡ listOf text log
-  table-list e =
+  -- of an accepted call the log is not too long, the pattern stands in the table, and the list is the pattern's
+  pub record AcceptedTree : Type 0 where
+    pub brief : length log ≤ 61440
+    pub tree : Pattern
+    pub reads : outcomeOf text ≡ Accepts tree
+    pub stands : Tree (rowsIn text log) 0 tree
+    pub few : nodes tree ≤ 32
+    pub list : listOf text log ≡ answersIn tree log
+
+  pub accepted-tree : refusal text log .number ≡ 0 → AcceptedTree
+  accepted-tree e =
       let k = accepted-number text log e in
       let a = accepts-spells text (k .tree) (k .reads) in
-      ap (λ (r : List ℕ). tableIn r log) (sym (rows-short (k .brief)) ∙ ap (λ (o : Outcome). tableOf o .rows) (k .reads))
-      ∙ table-answers (rowsOf (k .tree)) (k .tree) log (table-tree (k .tree) (a .few)) (a .few) ∙ sym (accepted-list text log (k .tree) (k .brief) (k .reads))
+      record {
+        brief = k .brief;
+        tree = k .tree;
+        reads = k .reads;
+        stands = subst (λ (r : List ℕ). Tree r 0 (k .tree)) (sym (ap (λ (o : Outcome). tableOf o .rows) (k .reads)) ∙ rows-short (k .brief)) (table-tree (k .tree) (a .few));
+        few = a .few;
+        list = accepted-list text log (k .tree) (k .brief) (k .reads);
+      }
+
+  -- the list of an accepted pattern's table is the pattern's
+  pub table-list : refusal text log .number ≡ 0 → tableIn (rowsIn text log) log ≡ listOf text log
+  table-list e = let a = accepted-tree e in table-answers (rowsIn text log) (a .tree) log (a .stands) (a .few) ∙ sym (a .list)

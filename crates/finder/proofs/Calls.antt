@@ -28,11 +28,8 @@ use Rattle.acceptance.specs.declared.Readied.{Readied}
 use Rattle.acceptance.specs.Readied.{rowsIn, readied}
 use Rattle.acceptance.proofs.Reading.{table-list}
 use Rattle.walk.specs.declared.Walked.{Walked}
-use Rattle.seek.specs.Source.{source}
+use Rattle.seek.specs.Source.{Source, listOver, Good}
 use Rattle.walk.specs.Filling.{Filling, FillAll}
-use Rattle.plan.specs.Plan.{soundWords, prepared, preparedSound}
-use Rattle.plan.specs.inner.Room.{Roomy}
-use Rattle.plan.proofs.Planning.{machine-list}
 use Rattle.finder.specs.declared.Finder.{Finder}
 use Rattle.finder.specs.Promises.{listIn, among, waits, handed, none, offered, lineAfter, refilled, stepOver}
 
@@ -84,12 +81,9 @@ short-list rows log line f cells w cells′ h g =
     subst (λ (l : List Stretch). Filling (onward l line) f cells w cells′) (sym (ap (λ b. cond b [] (tableIn rows log)) (le-ltb 61440 (length log) h))) g
 
 -- over the machine's table
-pub machine-fills : (rows log : List ℕ) (w : ℕ) (words sound kept t words′ kept′ : List ℕ) (line f : ℕ) (cells : List ℕ) (r : Walked) (cells′ : List ℕ)
-    → Roomy rows log w words sound → length kept ≡ soundWords rows w → t ≡ prepared rows log w words .rows → words′ ≡ prepared rows log w words .words → kept′ ≡ preparedSound rows log w words kept
-    → FillAll (source words′ [] kept′) t line f cells r cells′ → Filling (onward (tableIn rows log) line) f cells r cells′
-machine-fills rows log w words sound kept t words′ kept′ line f cells r cells′ h fits et ew ek g =
-    let m = machine-list rows log w words sound h kept t words′ kept′ fits et ew ek in
-    subst (λ (l : List Stretch). Filling (onward l line) f cells r cells′) (m .1) (g .fills (m .0))
+pub machine-fills : {src : Source} {t : List ℕ} {l : List Stretch} {line f : ℕ} {cells : List ℕ} {r : Walked} {cells′ : List ℕ}
+    → Good src t × (listOver src t 0 ≡ l) → FillAll src t line f cells r cells′ → Filling (onward l line) f cells r cells′
+machine-fills {line = line} {f} {cells} {r} {cells′} m g = subst (λ (l : List Stretch). Filling (onward l line) f cells r cells′) (m .1) (g .fills (m .0))
 
 -- the filling call
 module _ (text log : List ℕ) (f : ℕ) (cells : List ℕ) (r : Readied) (e : r ≡ readied text log) where

@@ -24,6 +24,8 @@ use Rattle.meaning.specs.declared.Reply.{Reply}
 use Rattle.meaning.proofs.Bounds.{sized, few-written, pick-small}
 use Rattle.picks.specs.Picking.{picking}
 use Rattle.picks.proofs.Picking.{picked-few}
+use Rattle.witness.specs.Witness.{triplesIn, shownIn, witnessing}
+use Rattle.witness.proofs.Laws.{shown-most}
 use Rattle.meaning.specs.Refusals.{miscalled, miscalledTaking, miscut, disordered, lowest, listsRefusal, takingRefusal}
 use Rattle.taking.specs.declared.Taken.{Taken}
 use Rattle.lists.specs.Filling.{listAnswers, wrote, notFilled, fillResult}
@@ -49,6 +51,15 @@ picking-small pattern log k cells r e =
       omega (arith, ap (λ (x : Reply). x .number) e, s .0),
       omega (arith, ap (λ (x : Reply). x .place) e, s .1),
       omega (arith, ap (λ (x : Reply). x .count) e, picked-few pattern log k cells),
+    )
+
+-- of a witness call
+pub witness-small : (pattern log : List ℕ) (k : ℕ) (cells : List ℕ) (r : Reply) → r ≡ witnessing pattern log k cells → (r .number ≤ 10) × (r .place ≤ 1024) × (r .count ≤ 65536)
+witness-small pattern log k cells r e =
+    let s = sized pattern log in (
+      omega (arith, ap (λ (x : Reply). x .number) e, s .refusal .number),
+      omega (arith, ap (λ (x : Reply). x .place) e, s .refusal .place),
+      omega (arith, ap (λ (x : Reply). x .count) e, length-take (triplesIn cells) (shownIn pattern log k), shown-most pattern log k),
     )
 
 -- ── Over lent lists ──

@@ -11,13 +11,15 @@ use Rattle.lines.specs.Lines.{stretchLines, stretchStart}
 use Rattle.lines.proofs.StretchLaws.{stretch-part}
 use Rattle.meaning.specs.declared.Filled.{Filled}
 use Rattle.meaning.specs.Finding.{filling}
+use Rattle.meaning.specs.declared.Reply.{Reply}
 use Rattle.meaning.specs.Refusals.{longLog}
 use Rattle.marking.specs.Rows.{counted}
 use Rattle.picks.specs.Picking.{picking}
+use Rattle.witness.specs.Witness.{witnessing}
 use Rattle.lists.specs.Filling.{fillResult}
 use Rattle.taking.specs.Taking.{takeResult}
 use Rattle.finder_c.specs.Packing.{bit, packedFill, packedReply, packedTaken, packedCount, packedLines, refusalIn, flagIn, placeIn, writtenIn, endIn, startIn, ReadsFill, ReadsReply, ReadsTaken, ReadsCount, ReadsLines}
-use Rattle.finder_c.proofs.Small.{filling-small, picking-small, lists-small, taking-small}
+use Rattle.finder_c.proofs.Small.{filling-small, picking-small, witness-small, lists-small, taking-small}
 use Rattle.finder_c.proofs.Logs.{count-small}
 
 bit-small : (b : Bool) → bit b < 2
@@ -38,13 +40,18 @@ reads-fill r h =
 pub fill-reads : (pattern log : List ℕ) (from : ℕ) (cells : List ℕ) → ReadsFill (packedFill (filling pattern log from cells)) (filling pattern log from cells)
 fill-reads pattern log from cells = let r = filling pattern log from cells in reads-fill r (filling-small pattern log from cells r refl)
 
--- what finder_pick returns
-pub pick-reads : (pattern log : List ℕ) (k : ℕ) (cells : List ℕ) → ReadsReply (packedReply (picking pattern log k cells)) (picking pattern log k cells)
-pick-reads pattern log k cells =
-    let r = picking pattern log k cells in
-    let h = picking-small pattern log k cells r refl in
+reads-reply : (r : Reply) → (r .number ≤ 10) × (r .place ≤ 1024) × (r .count ≤ 65536) → ReadsReply (packedReply r) r
+reads-reply r h =
     let p = parts (r .number) 0 (r .place) (r .count) (packedReply r) (omega arith) (omega (arith, h .0)) (omega arith) (omega (arith, h .1)) (omega (arith, h .2)) in
     record { fits = p .0; number = p .1; more = p .2; place = p .3; count = p .4 }
+
+-- what finder_pick returns
+pub pick-reads : (pattern log : List ℕ) (k : ℕ) (cells : List ℕ) → ReadsReply (packedReply (picking pattern log k cells)) (picking pattern log k cells)
+pick-reads pattern log k cells = let r = picking pattern log k cells in reads-reply r (picking-small pattern log k cells r refl)
+
+-- what finder_witness returns
+pub witness-reads : (pattern log : List ℕ) (n : ℕ) (cells : List ℕ) → ReadsReply (packedReply (witnessing pattern log n cells)) (witnessing pattern log n cells)
+witness-reads pattern log n cells = let r = witnessing pattern log n cells in reads-reply r (witness-small pattern log n cells r refl)
 
 -- what finder_lists_fill returns
 pub lists-fill-reads : (op k : ℕ) (items ends cells : List ℕ) (from : ℕ) → ReadsFill (packedFill (fillResult op k items ends cells from)) (fillResult op k items ends cells from)

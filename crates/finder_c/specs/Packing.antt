@@ -18,7 +18,7 @@ bit b = cond b 1 0
 abbrev pub packedFill : Filled → ℕ
 packedFill r = r .number + 256 * bit (r .more) + 65536 * r .place + 4294967296 * r .count
 
--- the same with bit 8 zero, bits 32 to 63 the count: of picks
+-- the same with bit 8 zero, bits 32 to 63 the count: of picks, or of triples
 abbrev pub packedReply : Reply → ℕ
 packedReply r = r .number + 65536 * r .place + 4294967296 * r .count
 

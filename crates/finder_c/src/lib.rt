@@ -8,6 +8,7 @@ ghost use Prim.Native.Nat.{_≤_};
 ghost use Rattle.stretches.specs.Filling.{filled};
 ghost use Rattle.meaning.specs.Finding.{listOf, filling};
 ghost use Rattle.picks.specs.Picking.{picksIn, picking};
+ghost use Rattle.witness.specs.Witness.{shownIn, filledShown, witnessing};
 ghost use Rattle.lists.specs.Filling.{fillResult, fillCells};
 ghost use Rattle.taking.specs.Taking.{takeResult, takeCells};
 ghost use Rattle.finder_c.specs.Packing.{packedFill, packedReply, packedTaken, packedCount, packedLines, bit};
@@ -29,7 +30,7 @@ fn packed(r: Filled) -> u64
     low + 65536 * (r.place as u64) + 4294967296 * (r.count as u64)
 }
 
-// The result of a picking call in one number.
+// The result of a picking or a witness call in one number.
 fn packed_reply(r: Reply) -> u64
     requires { ⌜ (r .number ≤ 10) × (r .place ≤ 1024) × (r .count ≤ 65536) ⌝ }
     ensures { λ n. ⌜ n ≡ packedReply r ⌝ }
@@ -64,6 +65,16 @@ pub extern "C" fn finder_pick(pattern: &[u8], log: &[u8], k: u32, cells: &mut [u
     ensures { λ r. ⌜ now (cells .exit) ≡ filled (picksIn (now (pattern .entry)) (now (log .entry)) k) 0 (now (cells .entry)) ⌝ }
 {
     let r = picks::pick(pattern, log, k as usize, cells);
+    packed_reply(r)
+}
+
+// The nodes that took part in answer number `number` of a pattern in a log, each as node, start, end, into the cells.
+#[no_mangle]
+pub extern "C" fn finder_witness(pattern: &[u8], log: &[u8], number: u64, cells: &mut [u32]) -> u64
+    ensures { λ r. ⌜ r ≡ packedReply (witnessing (now (pattern .entry)) (now (log .entry)) number (now (cells .entry))) ⌝ }
+    ensures { λ r. ⌜ now (cells .exit) ≡ filledShown (shownIn (now (pattern .entry)) (now (log .entry)) number) (now (cells .entry)) ⌝ }
+{
+    let r = witness::show(pattern, log, number as usize, cells);
     packed_reply(r)
 }
 

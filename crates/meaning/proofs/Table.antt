@@ -15,10 +15,10 @@ use Rattle.pattern.specs.Pattern.{Pattern, Patterns, Node, Nil, Cons, nodes, no
 use Rattle.pattern.specs.Rows.{Entry, Tree, Trees}
 use Rattle.meaning.specs.Meaning.{hits, measureIn, eval, evals, overLines, answersIn, overTable, tableIn}
 
-nodes-some : (p : Pattern) → 0 < nodes p
+pub nodes-some : (p : Pattern) → 0 < nodes p
 nodes-some (Node h ps) = omega arith
 
-tree-size : (rows : List ℕ) (v : ℕ) (p : Pattern) → Tree rows v p → sizeAt rows v ≡ nodes p
+pub tree-size : (rows : List ℕ) (v : ℕ) (p : Pattern) → Tree rows v p → sizeAt rows v ≡ nodes p
 tree-size rows v (Node h ps) t = t .0 .size
 
 module _ (rows : List ℕ) (ls : List Line) where
@@ -31,7 +31,7 @@ module _ (rows : List ℕ) (ls : List Line) where
       ∙ ap (λ (b : ℕ). apply (operatorOf (measureIn ls) (kindOf h) (firstOf h)) (marks 0 (map (hits (kindOf h) (firstOf h) b) ls)) (operandsOf (overTable rows ls) rows v)) (e .second)
 
   mutual
-    tree-list : (v : ℕ) (p : Pattern) → Tree rows v p → v + nodes p ≤ 32 → listAt (overTable rows ls) rows v ≡ eval (overLines ls) p
+    pub tree-list : (v : ℕ) (p : Pattern) → Tree rows v p → v + nodes p ≤ 32 → listAt (overTable rows ls) rows v ≡ eval (overLines ls) p
     tree-list v (Node h ps) t fits =
         let s : stopOf rows v ≡ v + 1 + nodesOf ps = stop-is rows v (suc (nodesOf ps)) (t .0 .size) (omega arith) fits ∙ omega arith in
         node-is v h (suc (nodesOf ps)) (omega arith) (t .0)

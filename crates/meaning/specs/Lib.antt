@@ -1,3 +1,4 @@
 pub mod Meaning
+pub mod Shown
 pub mod Refusals
 pub mod Finding

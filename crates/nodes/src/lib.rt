@@ -2,7 +2,7 @@
 // rows: the table, in five columns of 32; the second has the sizes of the subtrees.
 ghost use mathlib.Core.Path.{_≡_};
 ghost use Prim.Native.Nat.{_<_, _≤_};
-ghost use Rattle.stretches.specs.Table.{leafKind, nextOf, stopOf};
+ghost use Rattle.stretches.specs.Table.{leafKind, chainKind, nextOf, stopOf};
 
 // The kinds of nodes: operators, by their numbers;
 pub const OR: usize = 1;
@@ -49,6 +49,16 @@ pub fn is_leaf(kind: usize) -> bool
         return true;
     }
     kind == FR
+}
+
+// Whether the operands of this kind follow each other: `row` and `then`.
+pub fn is_chain(kind: usize) -> bool
+    ensures { λ r. ⌜ r ≡ chainKind kind ⌝ }
+{
+    if kind == ROW {
+        return true;
+    }
+    kind == THEN
 }
 
 // The sibling after c: past c, and at most 32; 32 where there is no node c.

@@ -6,7 +6,7 @@ use mathlib.Core.List.{List, [], _∷_, _++_, append-assoc}
 use lib.ListN.{length, getD, length-append}
 use lib.Seq.{getD-append-add}
 use native.Mathlib.Omega.{arith}
-use Rattle.pattern.specs.Pattern.{Pattern, Node, Patterns, Nil, Cons, count, nodes, nodesOf, depth, deepest, preorder, preorders, sizes, sizesOf}
+use Rattle.pattern.specs.Pattern.{Pattern, Node, Patterns, Nil, Cons, count, nodes, nodesOf, depth, deepest, preorder, preorders, parts, partsOf, sizes, sizesOf}
 use Rattle.pattern.specs.Reading.{firsts, others}
 
 -- the depth of each subtree, in preorder
@@ -44,6 +44,15 @@ mutual
   pub length-preorders : (ps : Patterns) → length (preorders ps) ≡ nodesOf ps
   length-preorders Nil = refl
   length-preorders (Cons p ps) = omega (arith, length-append (preorder p) (preorders ps), length-preorder p, length-preorders ps)
+
+-- a sub-pattern for each
+mutual
+  pub length-parts : (p : Pattern) → length (parts p) ≡ nodes p
+  length-parts (Node h ps) = ap suc (length-parts-of ps)
+
+  pub length-parts-of : (ps : Patterns) → length (partsOf ps) ≡ nodesOf ps
+  length-parts-of Nil = refl
+  length-parts-of (Cons p ps) = omega (arith, length-append (parts p) (partsOf ps), length-parts p, length-parts-of ps)
 
 -- ── The next of a forest's trees ──
 

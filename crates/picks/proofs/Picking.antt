@@ -26,11 +26,8 @@ use Rattle.acceptance.specs.declared.Readied.{Readied}
 use Rattle.acceptance.specs.Readied.{readied}
 use Rattle.acceptance.proofs.Reading.{table-list}
 use Rattle.seek.specs.declared.Front.{Front}
-use Rattle.seek.specs.Source.{Source, source, listOver, Good}
+use Rattle.seek.specs.Source.{Source, listOver, Good}
 use Rattle.seek.specs.First.{front}
-use Rattle.plan.specs.Plan.{soundWords, prepared, preparedSound}
-use Rattle.plan.specs.inner.Room.{Roomy}
-use Rattle.plan.proofs.Planning.{machine-list}
 use Rattle.picks.specs.Picking.{picksIn, picking}
 use Rattle.picks.specs.Picks.{shortest, picksOf}
 use Rattle.picks.specs.inner.Remaining.{clear, remaining, shortestOf}
@@ -130,12 +127,9 @@ refusal-high number k z h =
 pub refusal-none : (number k : ℕ) → number ≡ 0 → 1 ≤ k → k ≤ 16 → 0 ≡ refusalNumber number k
 refusal-none number k z h i = sym (ap₂ (λ a b. cond a (cond (not b) 10 0) number) (eq-eqb number 0 z) (true-and (leb 1 k) (leb k 16) (le-leb 1 k h) (le-leb k 16 i)))
 
--- over the machine's table
-pub machine-picks : (rows log : List ℕ) (w : ℕ) (words sound kept t words′ kept′ : List ℕ) (k n : ℕ) (cells cells′ : List ℕ)
-    → Roomy rows log w words sound → length kept ≡ soundWords rows w → t ≡ prepared rows log w words .rows → words′ ≡ prepared rows log w words .words → kept′ ≡ preparedSound rows log w words kept
-    → Wrote k (listOver (source words′ [] kept′) t 0) cells n cells′ → Wrote k (tableIn rows log) cells n cells′
-machine-picks rows log w words sound kept t words′ kept′ k n cells cells′ h fits et ew ek g =
-    subst (λ (x : List Stretch). Wrote k x cells n cells′) (machine-list rows log w words sound h kept t words′ kept′ fits et ew ek .1) g
+-- over another list that is the same
+pub wrote-as : (k : ℕ) (cells : List ℕ) {l l′ : List Stretch} {n : ℕ} {cells′ : List ℕ} → l ≡ l′ → Wrote k l cells n cells′ → Wrote k l′ cells n cells′
+wrote-as k cells {n = n} {cells′} e g = subst (λ (x : List Stretch). Wrote k x cells n cells′) e g
 
 module _ (text log : List ℕ) (k : ℕ) (cells : List ℕ) where
   abbrev Gives : ℕ → ℕ → ℕ → List ℕ → Type 0

@@ -10,7 +10,7 @@ use lib.ListN.{length, getD, take, drop, replicate, length-map}
 use lib.Seq.{take-at, drop-at, drop-drop, length-take-le}
 use lib.Dec.{leb, eqb}
 use borrow.Author.Tests.{le-leb, lt-ltb, leb-true, eqb-true, eqb-false, not-true, not-false}
-use Rattle.basics.proofs.Basics.{cases, true-or-false, true-and, and-true, or-true, or-false, le-or-lt}
+use Rattle.basics.proofs.Basics.{cases, true-or-false, true-and, and-true, or-false, le-or-lt}
 use Rattle.stretches.specs.Stretch.{Stretch, st, Fine, marks}
 use Rattle.stretches.specs.Operators.{operatorOf, apply}
 use Rattle.stretches.specs.Table.{kindAt, sizeAt, firstAt, secondAt, leafKind, stopOf, Given, listAt}
@@ -18,6 +18,7 @@ use Rattle.stretches.specs.inner.Operands.{operandsOf}
 use Rattle.stretches.proofs.Fine.{fine-marks}
 use Rattle.stretches.proofs.Marks.{marks-clear}
 use Rattle.stretches.proofs.Measures.{Measures, measure-same}
+use Rattle.stretches.proofs.Operators.{leaf-none}
 use Rattle.stretches.proofs.Table.{list-node, all-operands, same-lists}
 use Rattle.marks.specs.Row.{flags, lies, row, packed, fit}
 use Rattle.marks.proofs.Rows.{true-lies, row-words}
@@ -30,7 +31,6 @@ use Rattle.meaning.proofs.Run.{says-few}
 use Rattle.meaning.proofs.Table.{table-in}
 use Rattle.seek.specs.Source.{Source, source, lent, ownList, measuredBy, given, listOver, Good}
 use Rattle.folding.specs.Fold.{Folding, folding, withLeaf, folded}
-use Rattle.seek.proofs.Nodes.{no-operator}
 use Rattle.folding.proofs.FoldLeaf.{Before, leaf-wide, leaf-kind, leaf-first, leaf-second, leaf-size, else-kind, else-first, else-second}
 use Rattle.folding.proofs.FoldLaws.{Single, fold-lists, fold-good}
 use Rattle.leaves.specs.Leaves.{held, numberIn, Gathered, are, leavesOf}
@@ -124,14 +124,6 @@ no-lines : {A : Type 0} (f : A → Bool) → ((x : A) → f x ≡ false) → (p 
 no-lines f h p [] = refl
 no-lines f h p (x ∷ xs) = ap (λ b. cond b (st p p ∷ marks (suc p) (map f xs)) (marks (suc p) (map f xs))) (h x) ∙ no-lines f h (suc p) xs
 
--- no operator has a leaf's kind
-leaf-high : (k : ℕ) → leafKind k ≡ true → 6 < k
-leaf-high k h = by (or-true (eqb k 16) (eqb k 17) h)
-  where
-    by : (eqb k 16 ≡ true) ⊎ (eqb k 17 ≡ true) → 6 < k
-    by (inl e) = omega (arith, eqb-true k 16 e)
-    by (inr e) = omega (arith, eqb-true k 17 e)
-
 -- over n leaves among which all of the table's are found
 module _ (rows leaves : List ℕ) (n : ℕ) (ls : List Line) (w : ℕ) (words : List ℕ) (wide : length rows ≡ 160) (narrow : w ≤ 1024) (lines : length ls ≤ 64 * w) (enough : n * w ≤ length words)
     (found : (v : ℕ) → v < 32 → leafKind (kindAt rows v) ≡ true → numberIn leaves n (kindAt rows v) (firstAt rows v) (secondAt rows v) < n)
@@ -201,7 +193,7 @@ module _ (rows leaves : List ℕ) (n : ℕ) (ls : List Line) (w : ℕ) (words : 
       leaf-list : apply (operatorOf (new .measure) (kindAt t v) (firstAt t v)) (new .own v) (operandsOf old rows v) ≡ listAt old rows v
       leaf-list =
           ap (λ (x : Node). apply (operatorOf (new .measure) (x .kind) (x .first)) (new .own v) (operandsOf old rows v)) node ∙ leaf-own
-          ∙ sym (list-node old rows v lv ∙ ap (λ o. apply o (old .own v) (operandsOf old rows v)) (no-operator (old .measure) k a (leaf-high k h)))
+          ∙ sym (list-node old rows v lv ∙ ap (λ o. apply o (old .own v) (operandsOf old rows v)) (leaf-none (old .measure) k a h))
 
     -- another node
     module _ (h : leafKind k ≡ false) where
@@ -315,33 +307,44 @@ module _ (rows log : List ℕ) (w : ℕ) (words sound : List ℕ) (wide : length
       subst (λ (f : Folding). Good (source (f .words) [] sound′) (f .rows)) (sym is-made)
       (made-good rows (g .leaves) (g .count) (says log) w words wide narrow lines room (leaf-found rows) sound′ single measures)
 
--- in words with room the machine's table is fine, and its list is the one that the pattern's table has in the log
-module _ (rows log : List ℕ) (w : ℕ) (words sound : List ℕ) (h : Roomy rows log w words sound) where
-  -- the words that are lent to the row of the sound lines
-  pub sound-room : (n : ℕ) → (n ≡ soundWords rows w) × (n ≤ w + w) → (n ≡ length (take n sound)) × (length (take n sound) ≡ soundWords rows w)
-  sound-room n e = let z = length-take-le n sound (omega (arith, e .1, h .4)) in (sym z, z ∙ e .0)
+-- in words with room, once `sound_words` gave n and `prepare` the table, the words and the row of the sound lines: the machine's table is fine, and its lists are
+-- those that the pattern's table has in the log
+module _ (rows log : List ℕ) (w : ℕ) (words sound : List ℕ) (h : Roomy rows log w words sound) (n : ℕ) (e : (n ≡ soundWords rows w) × (n ≤ w + w)) where
+  -- the words that are lent to that row
+  pub sound-room : n ≡ length (take n sound)
+  sound-room = sym (length-take-le n sound (omega (arith, e .1, h .4)))
 
-  -- and what the machine reads of them afterwards
-  pub sound-again : (n : ℕ) → (n ≡ soundWords rows w) × (n ≤ w + w) → (kept : List ℕ) → kept ≡ preparedSound rows log w words (take n sound)
-      → (n ≡ length (take n (kept ++ drop n sound))) × (take n (kept ++ drop n sound) ≡ preparedSound rows log w words (take n sound))
-  unfolding preparedSound
-  sound-again n e kept k =
-      let long : length kept ≡ n = ap length k ∙ cases (fit (leavesOf rows .count) w (length words)) (λ b. length (cond b (soundMarked (says log) (take n sound)) (take n sound)) ≡ length (take n sound))
-      (λ _. sound-length (says log) (take n sound)) (λ _. refl) ∙ sym (sound-room n e .0) in
-      let z = take-at kept (drop n sound) n long in
-      (sym (ap length z ∙ long), z ∙ k)
+  module _ (t words′ kept : List ℕ) (et : t ≡ prepared rows log w words .rows) (ew : words′ ≡ prepared rows log w words .words) (ek : kept ≡ preparedSound rows log w words (take n sound)) where
+    kept-length : length kept ≡ n
+    unfolding preparedSound
+    kept-length =
+        ap length ek ∙ cases (fit (leavesOf rows .count) w (length words)) (λ b. length (cond b (soundMarked (says log) (take n sound)) (take n sound)) ≡ length (take n sound))
+        (λ _. sound-length (says log) (take n sound)) (λ _. refl) ∙ sym sound-room
 
-  pub machine-list : (kept t words′ kept′ : List ℕ) → length kept ≡ soundWords rows w → t ≡ prepared rows log w words .rows → words′ ≡ prepared rows log w words .words
-      → kept′ ≡ preparedSound rows log w words kept → Good (source words′ [] kept′) t × (listOver (source words′ [] kept′) t 0 ≡ tableIn rows log)
-  machine-list kept t words′ kept′ fits et ew ek =
-      let lines : length (says log) ≤ 64 * w = omega (arith, h .1) in
-      let narrow : w ≤ 1024 = omega (arith, h .2) in
-      let room = room-enough rows w (length words) (h .3) in
-      let made : Source = source (prepared rows log w words .words) [] (soundMarked (says log) kept) in
-      let same : source words′ [] kept′ ≡ made = ap₂ (λ (x y : List ℕ). source x [] y) ew (ek ∙ sound-made rows log w words kept (h .0) narrow lines room fits) in (
-        subst (λ (x : Source). Good x t) (sym same) (subst (Good made) (sym et) (prepared-good rows log w words kept (h .0) narrow lines room fits)),
-        ap₂ (λ (x : Source) (y : List ℕ). listOver x y 0) same et ∙ prepared-lists rows log w words kept (h .0) narrow lines room fits 0 ∙ sym (table-in rows log),
-      )
+    -- what the machine reads of them
+    abbrev read : List ℕ
+    read = take n (kept ++ drop n sound)
+
+    pub sound-again : n ≡ length read
+    sound-again = sym (ap length (take-at kept (drop n sound) n kept-length) ∙ kept-length)
+
+    -- every node's list
+    pub machine-lists : Good (source words′ [] read) t × ((v : ℕ) → listOver (source words′ [] read) t v ≡ listAt (overTable rows (says log)) rows v)
+    machine-lists =
+        let lines : length (says log) ≤ 64 * w = omega (arith, h .1) in
+        let narrow : w ≤ 1024 = omega (arith, h .2) in
+        let room = room-enough rows w (length words) (h .3) in
+        let fits = sym sound-room ∙ e .0 in
+        let made : Source = source (prepared rows log w words .words) [] (soundMarked (says log) (take n sound)) in
+        let same : source words′ [] read ≡ made =
+        ap₂ (λ (x y : List ℕ). source x [] y) ew (take-at kept (drop n sound) n kept-length ∙ ek ∙ sound-made rows log w words (take n sound) (h .0) narrow lines room fits) in (
+          subst (λ (x : Source). Good x t) (sym same) (subst (Good made) (sym et) (prepared-good rows log w words (take n sound) (h .0) narrow lines room fits)),
+          λ v. ap₂ (λ (x : Source) (y : List ℕ). listOver x y v) same et ∙ prepared-lists rows log w words (take n sound) (h .0) narrow lines room fits v,
+        )
+
+    -- the first node's, which is the table's
+    pub machine-list : Good (source words′ [] read) t × (listOver (source words′ [] read) t 0 ≡ tableIn rows log)
+    machine-list = let m = machine-lists in (m .0, m .1 0 ∙ sym (table-in rows log))
 
 -- a log that is not too long has rows of at most 960 words
 pub short-width : (log : List ℕ) (w : ℕ) → w ≡ widthOf log → length log ≤ 61440 → w ≤ 960

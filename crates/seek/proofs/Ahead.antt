@@ -1,11 +1,14 @@
 -- A front is the first of what is left from its line on; so what `first` hands out is what was sought. One law for each return. Assumes nothing.
 use mathlib.Core.Path.{_≡_, refl, sym, ap, subst, _∙_}
+use mathlib.Core.Bool.{false}
 use mathlib.Core.List.{List, [], _∷_}
 use Prim.Native.Nat.{ℕ, suc, _+_, _≤_, _<_}
 use native.Mathlib.Omega.{arith}
+use borrow.Author.Tests.{lt-leb}
 use Rattle.stretches.specs.Stretch.{Stretch, st, Fine}
 use Rattle.stretches.specs.Front.{None, At, firstFrom, onward}
 use Rattle.stretches.specs.Front as fronts
+use Rattle.stretches.specs.inner.Below.{endsBy}
 use Rattle.stretches.proofs.Fronts.{front-good}
 use Rattle.stretches.proofs.Steps.{onward-none, onward-at}
 use Rattle.seek.specs.declared.Front.{Front}
@@ -64,6 +67,26 @@ module _ {src : Source} {rows s : List ℕ} {v t : ℕ} {f : Front} {s' : List �
 
   pub first-at : f .start < 65536 → t ≤ f .start → FirstOf src rows s v t f s' × Ahead t f
   first-at one lo = (handed (λ good is. refl), record { from = λ z. lo; small = omega arith; none = λ n. absurd (omega arith) })
+
+-- what `first` finds is a node's front
+pub first-front : {src : Source} {rows s s' : List ℕ} {v t : ℕ} {f : Front} → FirstOf src rows s v t f s' → Good src rows → Ready src rows s → v < 32 → f ≡ front (firstFrom (listOver src rows v) t)
+unfolding first
+first-front g good rdy lv = g .finds lv good rdy .is
+
+-- a front that ends behind x is none that ends by it; any other is a stretch
+pub front-past : (l : List Stretch) (t : ℕ) (x : Stretch) (f : Front) → f ≡ front (firstFrom l t) → x .end < f .end → endsBy x (firstFrom l t) ≡ false
+front-past l t x f e h = go (firstFrom l t) e
+  where
+    go : (g : fronts.Front) → f ≡ front g → endsBy x g ≡ false
+    go None k = refl
+    go (At y) k = lt-leb (y .end) (x .end) (omega (arith, ap (λ (f : Front). f .end) k))
+
+pub front-by : (l : List Stretch) (t : ℕ) (x : Stretch) (f : Front) → f ≡ front (firstFrom l t) → f .end ≤ x .end → x .end < 65536 → firstFrom l t ≡ At (st (f .start) (f .end))
+front-by l t x f e h b = go (firstFrom l t) e
+  where
+    go : (g : fronts.Front) → f ≡ front g → g ≡ At (st (f .start) (f .end))
+    go None k = absurd (omega (arith, ap (λ (f : Front). f .end) k))
+    go (At y) k = sym (ap (λ (f : Front). At (st (f .start) (f .end))) k)
 
 -- ── A step over node 0's stretches ──
 

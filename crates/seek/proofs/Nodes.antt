@@ -3,13 +3,12 @@ use mathlib.Core.Path.{_≡_, refl, sym, ap, subst, _∙_}
 use mathlib.Core.Logic.{_⊎_, inl, inr}
 use mathlib.Core.Bool.{cond}
 use mathlib.Core.List.{List, [], _∷_}
-use mathlib.Core.Option.{none}
-use Prim.Native.Nat.{ℕ, zero, suc, _+_, _≤_, _<_}
+use Prim.Native.Nat.{ℕ, _+_, _≤_, _<_}
 use native.Mathlib.Omega.{arith}
 use lib.Dec.{eqb}
 use borrow.Author.Tests.{ne-eqb}
 use Rattle.stretches.specs.Stretch.{Stretch, Fine, Op, answers, marks}
-use Rattle.stretches.specs.Operators.{operators, among, operatorOf, apply}
+use Rattle.stretches.specs.Operators.{operatorOf, apply}
 use Rattle.stretches.specs.Front.{None, At, firstFrom}
 use Rattle.stretches.specs.Table.{kindAt, firstAt, secondAt, stopOf}
 use Rattle.stretches.specs.inner.Operands.{operandsOf}
@@ -19,6 +18,7 @@ use Rattle.stretches.proofs.Answers.{Cand, cand-sound}
 use Rattle.stretches.proofs.InRun.{cand-below}
 use Rattle.stretches.proofs.Fine.{AllFine}
 use Rattle.stretches.proofs.Fronts.{FirstIs, first-good, first-is, first-none}
+use Rattle.stretches.proofs.Operators.{no-operator}
 use Rattle.stretches.proofs.Table.{list-node, all-operands, fine-list}
 use Rattle.marks.specs.Row.{row}
 use Rattle.seek.specs.Source.{Source, measured, lent, ownList, given, listOver, Good}
@@ -61,20 +61,6 @@ module _ (src : Source) (rows : List ℕ) (good : Good src rows) (v : ℕ) (lv :
   past t h = ap front (sym (first-none (listOver src rows v) (fine .rising) t (λ a e m. omega (arith, fine .sound a e m, fine .below a e m))))
 
 -- ── A node's list by its kind ──
-
-among-none : (m : Stretch → ℕ) (k n : ℕ) → 6 ≤ n → among (operators m k) n ≡ none
-among-none m k zero h = absurd (omega arith)
-among-none m k (suc zero) h = absurd (omega arith)
-among-none m k (suc (suc zero)) h = absurd (omega arith)
-among-none m k (suc (suc (suc zero))) h = absurd (omega arith)
-among-none m k (suc (suc (suc (suc zero)))) h = absurd (omega arith)
-among-none m k (suc (suc (suc (suc (suc zero))))) h = absurd (omega arith)
-among-none m k (suc (suc (suc (suc (suc (suc n)))))) h = refl
-
--- past the operators' numbers there is none
-pub no-operator : (m : Stretch → ℕ) (n k : ℕ) → 6 < n → operatorOf m n k ≡ none
-no-operator m zero k h = refl
-no-operator m (suc n) k h = among-none m k n (omega arith)
 
 module _ (src : Source) (rows : List ℕ) (v : ℕ) (lv : v < 32) where
   pub by-kind : (k : ℕ) → kindAt rows v ≡ k → listOver src rows v ≡ apply (operatorOf (measured src) k (firstAt rows v)) (ownList src k (firstAt rows v) (secondAt rows v)) (operandsOf (given src rows) rows v)

@@ -1,7 +1,7 @@
 -- The turns of `or`, of a span, of a chain and of a filter: what is left of the operands at each turn, and one law for each return and turn.
 -- Assumes nothing.
 use mathlib.Core.Path.{_≡_, sym, ap, _∙_}
-use mathlib.Core.Logic.{inl, inr}
+use mathlib.Core.Logic.{_⊎_, inl, inr}
 use mathlib.Core.Bool.{Bool, true, false, not, cond, _&&_}
 use mathlib.Core.List.{List, [], _∷_}
 use Prim.Native.Nat.{ℕ, _+_, _≤_, _<_, min, max}
@@ -10,16 +10,17 @@ use lib.Dec.{leb, ltb, eqb}
 use borrow.Author.Tests.{lt-ltb, le-ltb, eq-eqb, ne-eqb}
 use Rattle.stretches.specs.Stretch.{Stretch, st}
 use Rattle.stretches.specs.Front.{firstFrom}
-use Rattle.stretches.specs.Table.{kindAt, firstAt, nextOf, stopOf}
+use Rattle.stretches.specs.Table.{kindAt, firstAt, chainKind, nextOf, stopOf}
 use Rattle.stretches.specs.inner.Operands.{operandsFrom, operandsOf}
 use Rattle.stretches.proofs.Table.{stop-most, from-more, from-end}
 use Rattle.seek.specs.declared.Front.{Front}
 use Rattle.seek.specs.Source.{Source, measured, given, listOver, Good}
 use Rattle.seek.specs.First.{atF, noneF, front, first, Ready}
 use Rattle.seek.specs.inner.Fronts.{pastOf, badF, kept, goF, betterOf}
-use Rattle.seek.specs.inner.Looks.{spanFrom, chainFrom, clears, passes, others, lookBy, look, Sought, Looked, Passed, Tested, Chains, Filters}
+use Rattle.seek.specs.inner.Looks.{spanFrom, chainFrom, clears, passes, others, lookBy, look, Sought, Looked, Passed, Tested, Filters}
 use Rattle.seek.proofs.Best.{bestFrom, or-look}
 use Rattle.seek.proofs.Nodes.{fine-operands, or-list, look-kind}
+use Rattle.seek.proofs.Shapes.{chains}
 
 -- ── What is left of the operands ──
 
@@ -145,15 +146,15 @@ tightAt rows v = eqb (kindAt rows v) 3
 
 module _ {src : Source} {rows s s₁ : List ℕ} {v t : ℕ} {a : Front} (lv : v < 32) (some : v + 1 < stopOf rows v) (w : Sought src rows s (v + 1) t a s₁) where
   -- a look begins with the first operand's front
-  chain-first : Chains (kindAt rows v) → Good src rows → Ready src rows s
+  chain-first : chainKind (kindAt rows v) ≡ true → Good src rows → Ready src rows s
       → Ready src rows s₁ × (goF a (λ f. chainFrom (tightAt rows v) (f .start) (f .end) (left src rows v (nextOf rows (v + 1)))) ≡ look src rows v t)
   unfolding first
   chain-first k good rdy =
       let g = w .found good rdy in
       let z = left-more src rows v (v + 1) lv some in
-      (g .ready, ap (λ (x : Front). goF x (λ f. chainFrom (tightAt rows v) (f .start) (f .end) (left src rows v (nextOf rows (v + 1))))) (g .is) ∙ by k good z)
+      (g .ready, ap (λ (x : Front). goF x (λ f. chainFrom (tightAt rows v) (f .start) (f .end) (left src rows v (nextOf rows (v + 1))))) (g .is) ∙ by (chains (kindAt rows v) k) good z)
     where
-      by : Chains (kindAt rows v) → Good src rows → left src rows v (v + 1) ≡ listOver src rows (v + 1) ∷ left src rows v (nextOf rows (v + 1))
+      by : (kindAt rows v ≡ 3) ⊎ (kindAt rows v ≡ 4) → Good src rows → left src rows v (v + 1) ≡ listOver src rows (v + 1) ∷ left src rows v (nextOf rows (v + 1))
           → goF (front (firstFrom (listOver src rows (v + 1)) t)) (λ f. chainFrom (tightAt rows v) (f .start) (f .end) (left src rows v (nextOf rows (v + 1)))) ≡ look src rows v t
       by (inl k) good z =
           ap (λ b. goF (front (firstFrom (listOver src rows (v + 1)) t)) (λ f. chainFrom b (f .start) (f .end) (left src rows v (nextOf rows (v + 1))))) (eq-eqb (kindAt rows v) 3 k)
@@ -162,12 +163,12 @@ module _ {src : Source} {rows s s₁ : List ℕ} {v t : ℕ} {a : Front} (lv : v
           ap (λ b. goF (front (firstFrom (listOver src rows (v + 1)) t)) (λ f. chainFrom b (f .start) (f .end) (left src rows v (nextOf rows (v + 1))))) (ne-eqb (kindAt rows v) 3 (λ z. omega arith))
           ∙ sym (look-kind src rows good v lv 4 t k ∙ ap (λ (ls : List (List Stretch)). lookBy src 4 (firstAt rows v) ls t) z)
 
-  pub chain-gone : {r : Front} → 65536 ≤ a .start → r ≡ noneF → Chains (kindAt rows v) → Looked src rows s v t r s₁
+  pub chain-gone : {r : Front} → 65536 ≤ a .start → r ≡ noneF → chainKind (kindAt rows v) ≡ true → Looked src rows s v t r s₁
   chain-gone n er k = record {
     seen = λ good rdy. let i = chain-first k good rdy in record { is = er ∙ (sym (go-none a (λ f. chainFrom (tightAt rows v) (f .start) (f .end) (left src rows v (nextOf rows (v + 1)))) n) ∙ i .1); ready = i .0 };
   }
 
-  pub chain-some : a .start < 65536 → Chains (kindAt rows v) → Good src rows → Ready src rows s
+  pub chain-some : a .start < 65536 → chainKind (kindAt rows v) ≡ true → Good src rows → Ready src rows s
       → Ready src rows s₁ × (chainFrom (tightAt rows v) (a .start) (a .end) (left src rows v (nextOf rows (v + 1))) ≡ look src rows v t)
   chain-some one k good rdy =
       let i = chain-first k good rdy in
@@ -211,7 +212,7 @@ module _ {src : Source} {rows s₁ : List ℕ} {v t m e₁ : ℕ} {s s' : List �
 
 -- the ways out of the chain, from the state at entry
 module _ {src : Source} {rows s₀ s₁ : List ℕ} {v t : ℕ} {a : Front} (lv : v < 32) (some : v + 1 < stopOf rows v) (w₀ : Sought src rows s₀ (v + 1) t a s₁) (one₀ : a .start < 65536)
-    {s : List ℕ} {e c : ℕ} (inv : ChainInv src rows s₁ v t (a .start) (a .end) s e c) (k : Chains (kindAt rows v)) where
+    {s : List ℕ} {e c : ℕ} (inv : ChainInv src rows s₁ v t (a .start) (a .end) s e c) (k : chainKind (kindAt rows v) ≡ true) where
   pub chain-end : {r : Front} → stopOf rows v ≤ c → r ≡ atF (a .start) e → Looked src rows s₀ v t r s
   unfolding chainFrom
   chain-end le er = record {

@@ -28,15 +28,16 @@ use nodes::OR;
 use nodes::ROW;
 use nodes::TABLE;
 use nodes::THEN;
+use nodes::is_chain;
 use nodes::next_of;
 use nodes::stop_of;
 ghost use mathlib.Core.Path.{_≡_};
 ghost use mathlib.Core.Bool.{true, false};
 ghost use mathlib.Core.Logic.{_⊎_};
 ghost use Prim.Native.Nat.{_+_, _≤_, _<_};
-ghost use Rattle.stretches.specs.Table.{kindAt, stopOf};
+ghost use Rattle.stretches.specs.Table.{kindAt, chainKind, stopOf};
 ghost use Rattle.seek.specs.Source.{source};
-ghost use Rattle.seek.specs.inner.Looks.{Chains, Narrows, Filters, Sought, Looked, Tested};
+ghost use Rattle.seek.specs.inner.Looks.{Narrows, Filters, Sought, Looked, Tested};
 
 // `or`: the best of the operands' fronts.
 fn seek_or(
@@ -102,7 +103,7 @@ fn chain(
     t: u32,
 ) -> Front
     requires { ⌜ (v < 32) × (v + 1 < stopOf (now rows) v) ⌝ }
-    ensures { λ r. ⌜ (Chains (kindAt (now (rows .entry)) v) → Looked (source (now (words .entry)) (now (items .entry)) (now (sound .entry))) (now (rows .entry)) (now (st .entry)) v t r (now (st .exit))) ⌝ }
+    ensures { λ r. ⌜ (chainKind (kindAt (now (rows .entry)) v) ≡ true → Looked (source (now (words .entry)) (now (items .entry)) (now (sound .entry))) (now (rows .entry)) (now (st .entry)) v t r (now (st .exit))) ⌝ }
 {
     let tight = rows[v] == ROW;
     let stop = stop_of(rows, v);
@@ -173,16 +174,6 @@ fn filter(
         return a;
     }
     at(a.start, NONE)
-}
-
-// Whether the operands follow each other: `row` and `then`.
-fn is_chain(kind: usize) -> bool
-    ensures { λ r. ⌜ (r ≡ true → Chains kind) × (r ≡ false → Chains kind → ⊥) ⌝ }
-{
-    if kind == ROW {
-        return true;
-    }
-    kind == THEN
 }
 
 // What an operator but `or` offers first from t on.

@@ -68,20 +68,18 @@ flat-append : (a b : List Stretch) → flat (a ++ b) ≡ flat a ++ flat b
 flat-append [] b = refl
 flat-append (x ∷ a) b = ap (λ (r : List ℕ). x .start ∷ x .end ∷ r) (flat-append a b)
 
--- two cells are written behind what was
-put-two : (p cells : List ℕ) (i s e : ℕ) → length p ≡ i → i + 2 ≤ length cells → set (set (p ++ drop i cells) i s) (i + 1) e ≡ (p ++ (s ∷ e ∷ [])) ++ drop (i + 2) cells
+-- a cell is written behind what was; and two
+pub put-one : (p cells : List ℕ) (i x : ℕ) → length p ≡ i → i < length cells → set (p ++ drop i cells) i x ≡ (p ++ (x ∷ [])) ++ drop (i + 1) cells
+put-one p cells i x h k =
+    let z : suc i ≡ i + 1 = omega arith in
+    ap (λ (l : List ℕ). set (p ++ l) i x) (drop-cons cells i 0 k) ∙ set-at p (getD cells i 0) (drop (suc i) cells) x i h
+    ∙ sym (append-assoc p (x ∷ []) (drop (suc i) cells)) ∙ ap (λ (j : ℕ). (p ++ (x ∷ [])) ++ drop j cells) z
+
+pub put-two : (p cells : List ℕ) (i s e : ℕ) → length p ≡ i → i + 2 ≤ length cells → set (set (p ++ drop i cells) i s) (i + 1) e ≡ (p ++ (s ∷ e ∷ [])) ++ drop (i + 2) cells
 put-two p cells i s e h k =
-    let a : drop i cells ≡ getD cells i 0 ∷ drop (suc i) cells = drop-cons cells i 0 (omega arith) in
-    let b : drop (suc i) cells ≡ getD cells (suc i) 0 ∷ drop (suc (suc i)) cells = drop-cons cells (suc i) 0 (omega arith) in
-    let j : suc (suc i) ≡ i + 2 = omega arith in
-    let y : ℕ = getD cells i 0 in
-    let z : ℕ = getD cells (suc i) 0 in
-    let r : List ℕ = drop (suc (suc i)) cells in
-    let w : set (p ++ drop i cells) i s ≡ p ++ (s ∷ z ∷ r) = ap (λ (l : List ℕ). set (p ++ l) i s) (a ∙ ap (λ (l : List ℕ). y ∷ l) b) ∙ set-at p y (z ∷ r) s i h in
-    let v : p ++ (s ∷ z ∷ r) ≡ (p ++ (s ∷ [])) ++ (z ∷ r) = sym (append-assoc p (s ∷ []) (z ∷ r)) in
-    let u : length (p ++ (s ∷ [])) ≡ i + 1 = omega (arith, length-append p (s ∷ [])) in
-    ap (λ (l : List ℕ). set l (i + 1) e) (w ∙ v) ∙ (set-at (p ++ (s ∷ [])) z r e (i + 1) u
-    ∙ (append-assoc p (s ∷ []) (e ∷ r) ∙ (sym (append-assoc p (s ∷ e ∷ []) r) ∙ ap (λ (k : ℕ). (p ++ (s ∷ e ∷ [])) ++ drop k cells) j)))
+    let z : i + 1 + 1 ≡ i + 2 = omega arith in
+    ap (λ (l : List ℕ). set l (i + 1) e) (put-one p cells i s h (omega arith)) ∙ put-one (p ++ (s ∷ [])) cells (i + 1) e (omega (arith, length-append p (s ∷ []))) (omega arith)
+    ∙ ap₂ (λ (l : List ℕ) (j : ℕ). l ++ drop j cells) (append-assoc p (s ∷ []) (e ∷ [])) z
 
 -- n of these answers are written
 pub record Partly (l : List Stretch) (n : ℕ) (cells₀ cells : List ℕ) : Type 0 where

@@ -9,9 +9,11 @@ pub mod Marks
 pub mod Steps
 pub mod Ordered
 pub mod Tight
+pub mod Shown
 pub mod Union
 pub mod Fine
 pub mod Measures
+pub mod Operators
 pub mod Table
 pub mod Filling
 pub mod Lent

@@ -30,6 +30,10 @@ thirdAt rows v = getD rows (128 + v) 0
 abbrev pub leafKind : ℕ → Bool
 leafKind k = eqb k 16 || eqb k 17
 
+-- the operators whose operands follow each other: `row` and `then`
+abbrev pub chainKind : ℕ → Bool
+chainKind k = eqb k 3 || eqb k 4
+
 -- ── Operands: the first stands behind its operator, each next one behind the subtree of the one before ──
 
 -- the place behind c's subtree: past c, and at most 32; 32 where there is no node c

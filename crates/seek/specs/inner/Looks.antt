@@ -73,10 +73,6 @@ pub record Tested (src : Source) (rows s : List ℕ) (v : ℕ) (a : Front) (r : 
 
 -- ── The operators by their shape ──
 
--- `row` and `then`: a chain
-abbrev pub Chains : ℕ → Type 0
-Chains k = (k ≡ 3) ⊎ (k ≡ 4)
-
 -- `and` and `then`: narrowed to the last look that still ends where the first does
 abbrev pub Narrows : ℕ → Type 0
 Narrows k = (k ≡ 2) ⊎ (k ≡ 4)
