@@ -1,5 +1,6 @@
-//! Times the finder's filling and picking calls beside the plain Rust evaluator of the tests, and the steps beside the filling call: same machine, same
-//! inputs, all built for release, calls in turn. It measures and passes no judgement; only a difference between the two results stops it.
+//! Times the finder's filling, picking and witness calls beside the plain Rust evaluator of the tests, and steps and witnesses beside the
+//! filling call: same machine, same inputs, all built for release, calls in turn. It measures and passes no judgement; only a difference
+//! between the two results stops it.
 
 #[path = "../tests/outside/calls.rs"]
 mod calls;
@@ -9,9 +10,12 @@ mod inputs;
 mod quick;
 #[path = "../tests/outside/reference.rs"]
 mod reference;
+#[path = "../tests/outside/shown.rs"]
+mod shown;
 
 use calls::Calls;
 use inputs::Rng;
+use shown::ENOUGH;
 use std::hint::black_box;
 use std::time::{Duration, Instant};
 
@@ -31,6 +35,11 @@ fn side_by_side(mut a: impl FnMut(), mut b: impl FnMut()) -> (Duration, Duration
     of_a.sort();
     of_b.sort();
     (of_a[of_a.len() / 2], of_b[of_b.len() / 2])
+}
+
+/// The heads of a table: what is timed, beside what, and by what their times are divided.
+fn print_heads(timed: &str, beside: &str, per: &str) {
+    println!("{:<36} {:>6} {:>6} {timed:>10} {beside:>10} {:>7} {per:>9} {per:>9}", "", "bytes", "found", "ratio");
 }
 
 fn print_row(name: &str, bytes: usize, found: usize, (finder, plain): (Duration, Duration)) {
@@ -92,6 +101,53 @@ fn pick_row(name: &str, pattern: &str, log: &[u8], k: u32) {
     print_row(name, log.len(), (given >> 32) as usize, times);
 }
 
+/// What plain Rust shows of an answer, into cells.
+fn plain_witness(pattern: &[u8], log: &[u8], number: u64, cells: &mut [u32]) -> u64 {
+    let root = shown::quick_outermost(pattern, log);
+    shown::write(&root.map(|root| shown::of_number(&root, number, shown::quick_below)), cells)
+}
+
+/// The number of a pattern's last answer in a log, and how many nodes took part in it. Finder and plain Rust must agree.
+fn last_answer(name: &str, pattern: &[u8], log: &[u8]) -> (u64, usize) {
+    let found = calls::Archive.fill(pattern, log, &mut vec![0; 2 * log.len()], 0) >> 32;
+    assert!(found > 0, "{name}: no answer");
+    let (mut of_finder, mut of_plain) = ([0; ENOUGH], [0; ENOUGH]);
+    let given = calls::Archive.witness(pattern, log, found - 1, &mut of_finder);
+    let due = plain_witness(pattern, log, found - 1, &mut of_plain);
+    assert!(given == due && of_finder == of_plain, "{name}: the results differ: {given:#x} and {due:#x}");
+    (found - 1, (given >> 32) as usize)
+}
+
+/// One row: what is shown of a pattern's last answer in a log.
+fn witness_row(name: &str, pattern: &str, log: &[u8]) {
+    let (pattern, mut of_finder, mut of_plain) = (pattern.as_bytes(), [0; ENOUGH], [0; ENOUGH]);
+    let (last, nodes) = last_answer(name, pattern, log);
+    let times = side_by_side(
+        || {
+            black_box(calls::Archive.witness(black_box(pattern), black_box(log), last, &mut of_finder));
+        },
+        || {
+            black_box(plain_witness(black_box(pattern), black_box(log), last, &mut of_plain));
+        },
+    );
+    print_row(name, log.len(), nodes, times);
+}
+
+/// One row: the same beside the filling of all answers.
+fn witness_fill_row(name: &str, pattern: &str, log: &[u8], pairs: usize) {
+    let (pattern, mut shown, mut filled) = (pattern.as_bytes(), [0; ENOUGH], vec![0; 2 * pairs]);
+    let (last, nodes) = last_answer(name, pattern, log);
+    let times = side_by_side(
+        || {
+            black_box(calls::Archive.witness(black_box(pattern), black_box(log), last, &mut shown));
+        },
+        || {
+            black_box(calls::Archive.fill(black_box(pattern), black_box(log), &mut filled, 0));
+        },
+    );
+    print_row(name, log.len(), nodes, times);
+}
+
 /// One row: the answers of a pattern in a log taken one by one beside the filling of all of them.
 fn step_row(name: &str, pattern: &str, log: &[u8], pairs: usize) {
     let (pattern, mut taken, mut filled) = (pattern.as_bytes(), vec![0; 2 * pairs], vec![0; 2 * pairs]);
@@ -147,6 +203,13 @@ fn spelled_log(rng: &mut Rng) -> Vec<u8> {
     log
 }
 
+/// A log in which a `then` that is deep in a pattern is found at once, and the search for a shorter stretch goes through all lines; and the pattern.
+fn deep_then() -> (String, Vec<u8>) {
+    let pattern = format!("{}ev,7,0,max,1,and,2,ev,1,0,fr,3,0{}", "then,2,".repeat(5), ",ev,5,0".repeat(4));
+    let first = ["1,4,7,2,6\n1,4,1,3,0\n", &"1,4,5,2,0\n".repeat(6), "1,4,7,2,6\n"].concat();
+    (pattern, (first + &"1,4,1,1,0\n1,4,2,3,0\n".repeat(1_490)).into_bytes())
+}
+
 /// The lines of a log in another order.
 fn shuffled(rng: &mut Rng, log: &[u8]) -> Vec<u8> {
     let mut lines: Vec<&[u8]> = log.split_inclusive(|&b| b == b'\n').collect();
@@ -161,10 +224,7 @@ fn main() {
     let full: Vec<u8> = evening.iter().copied().cycle().take(reference::LOG_MAX).collect();
     println!("Medians of calls in turn; every call reads its pattern and its log anew and writes the answers into lent cells.");
     println!("Cells are lent once and not cleared between calls; plain Rust makes its lists anew in each call.");
-    println!(
-        "{:<36} {:>6} {:>6} {:>10} {:>10} {:>7} {:>9} {:>9}",
-        "", "bytes", "found", "finder us", "plain us", "ratio", "ns/byte", "ns/byte"
-    );
+    print_heads("finder us", "plain us", "ns/byte");
     row("3,000 lines, six operators", SIX, &evening, 3_000);
     row("3,000 lines, six, lanes padded", SIX, &inputs::with_lanes(&evening, inputs::padded), 3_000);
     row("3,000 lines, one leaf, no match", "ev,254,99", &evening, 3_000);
@@ -201,10 +261,7 @@ fn main() {
     }
     println!();
     println!("Picks, found being their number.");
-    println!(
-        "{:<36} {:>6} {:>6} {:>10} {:>10} {:>7} {:>9} {:>9}",
-        "", "bytes", "found", "finder us", "plain us", "ratio", "ns/byte", "ns/byte"
-    );
+    print_heads("finder us", "plain us", "ns/byte");
     let every: Vec<u8> = b"1,4,1,3,6\n".repeat(reference::LOG_MAX / 10);
     pick_row("3,000 lines, six operators, 16", SIX, &evening, 16);
     pick_row("3,000 lines, most match, 16", "ev,2,0", &evening, 16);
@@ -215,11 +272,27 @@ fn main() {
         pick_row(&format!("full log, rows of two lines, {k}"), "row,2,ev,1,0,ev,1,0", &every, k);
     }
     println!();
+    println!("What is shown of the last answer, found being the nodes that took part.");
+    print_heads("finder us", "plain us", "ns/byte");
+    let (then, after_it) = deep_then();
+    let shown: [(&str, &str, &[u8]); 8] = [
+        ("3,000 lines, six operators", SIX, &evening),
+        ("3,000 lines, one leaf, most match", "ev,2,0", &evening),
+        ("3,000 lines, or of 31 leaves", &leaves("or"), &evening),
+        ("3,000 lines, and of 10 or", &ten, &evening),
+        ("dense, and of 31 leaves", &dense_leaves("and"), &dense[0]),
+        ("dense, then of 31 leaves", &dense_leaves("then"), &dense[0]),
+        ("full log, six operators", SIX, &full),
+        ("3,000 lines, then in then, five deep", &then, &after_it),
+    ];
+    shown.iter().for_each(|(name, pattern, log)| witness_row(name, pattern, log));
+    println!();
+    println!("The same beside the filling of all answers.");
+    print_heads("witness us", "fill us", "ns/byte");
+    shown.iter().for_each(|(name, pattern, log)| witness_fill_row(name, pattern, log, 6_000));
+    println!();
     println!("The same answers one by one, the last step saying none, beside the filling.");
-    println!(
-        "{:<36} {:>6} {:>6} {:>10} {:>10} {:>7} {:>9} {:>9}",
-        "", "bytes", "found", "steps us", "fill us", "ratio", "us/answer", "us/answer"
-    );
+    print_heads("steps us", "fill us", "us/answer");
     step_row("3,000 lines, six operators", SIX, &evening, 3_000);
     step_row("3,000 lines, one leaf, most match", "ev,2,0", &evening, 3_000);
     step_row("3,000 lines, or of 31 leaves", &leaves("or"), &evening, 3_000);

@@ -4,6 +4,7 @@
 pub trait Calls {
     fn fill(&self, pattern: &[u8], log: &[u8], cells: &mut [u32], from: u64) -> u64;
     fn pick(&self, pattern: &[u8], log: &[u8], k: u32, cells: &mut [u32]) -> u64;
+    fn witness(&self, pattern: &[u8], log: &[u8], number: u64, cells: &mut [u32]) -> u64;
     fn lists_fill(&self, op: u32, k: u32, items: &[u32], ends: &[u32], cells: &mut [u32], from: u64) -> u64;
     fn lists_take(&self, op: u32, items: &[u32], ends: &[u32], counts: &mut [u32], number: u64) -> u64;
     fn count(&self, log: &[u8]) -> u64;
@@ -32,6 +33,15 @@ extern "C" {
         log: *const u8,
         log_len: usize,
         k: u32,
+        cells: *mut u32,
+        cell_count: usize,
+    ) -> u64;
+    fn finder_witness(
+        pattern: *const u8,
+        pattern_len: usize,
+        log: *const u8,
+        log_len: usize,
+        number: u64,
         cells: *mut u32,
         cell_count: usize,
     ) -> u64;
@@ -73,6 +83,10 @@ impl Calls for Archive {
 
     fn pick(&self, pattern: &[u8], log: &[u8], k: u32, cells: &mut [u32]) -> u64 {
         unsafe { finder_pick(pattern.as_ptr(), pattern.len(), log.as_ptr(), log.len(), k, cells.as_mut_ptr(), cells.len()) }
+    }
+
+    fn witness(&self, pattern: &[u8], log: &[u8], number: u64, cells: &mut [u32]) -> u64 {
+        unsafe { finder_witness(pattern.as_ptr(), pattern.len(), log.as_ptr(), log.len(), number, cells.as_mut_ptr(), cells.len()) }
     }
 
     fn lists_fill(&self, op: u32, k: u32, items: &[u32], ends: &[u32], cells: &mut [u32], from: u64) -> u64 {

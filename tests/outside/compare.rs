@@ -15,12 +15,22 @@ pub fn show(text: &[u8]) -> String {
     format!("{} bytes \"{}\"{}", text.len(), cut.escape_ascii(), if cut.len() < text.len() { ".." } else { "" })
 }
 
+/// A pattern and a log for a report.
+pub fn input(pattern: &[u8], log: &[u8]) -> String {
+    format!("pattern {}\n  log {}", show(pattern), show(log))
+}
+
+/// The same with a run of the log that so many lines precede.
+pub fn input_with_run(pattern: &[u8], run: &[u8], log: &[u8], before: u32) -> String {
+    format!("{}\n  with the run {}, {before} lines before it", input(pattern, log), show(run))
+}
+
 /// Cells on both sides of the lent ones.
 const GUARD: usize = 3;
 
 /// Runs `call` and `model` on equal cells with random contents, in half of the cases as small as lines' numbers; the results and all cells
 /// must agree.
-fn same(rng: &mut Rng, cells: usize, call: impl Fn(&mut [u32]) -> u64, model: impl Fn(&mut [u32]) -> u64) -> Checked {
+pub fn same(rng: &mut Rng, cells: usize, call: impl Fn(&mut [u32]) -> u64, model: impl Fn(&mut [u32]) -> u64) -> Checked {
     let most = rng.pick(&[u32::MAX, 63]);
     let before: Vec<u32> = (0..cells + 2 * GUARD).map(|_| rng.next() as u32 & most).collect();
     let (mut got, mut wanted) = (before.clone(), before);
@@ -46,14 +56,14 @@ pub fn fill(
     from: u64,
 ) -> Checked {
     let call = |lent: &mut [u32]| calls.fill(pattern, log, lent, from);
-    let report = |what| format!("{what}\n  pattern {}\n  log {}\n  cells {cells}, from {from}", show(pattern), show(log));
+    let report = |what| format!("{what}\n  {}\n  cells {cells}, from {from}", input(pattern, log));
     same(rng, cells, call, |lent| reference::fill(answers, lent, from)).map_err(report)
 }
 
 /// The stretches of a pattern in a log taken one by one.
 pub fn steps(calls: &dyn Calls, rng: &mut Rng, pattern: &[u8], log: &[u8], answers: &Result<List, Refusal>, cells: usize) -> Checked {
     let call = |lent: &mut [u32]| calls.steps(pattern, log, lent);
-    let report = |what| format!("one by one: {what}\n  pattern {}\n  log {}\n  cells {cells}", show(pattern), show(log));
+    let report = |what| format!("one by one: {what}\n  {}\n  cells {cells}", input(pattern, log));
     same(rng, cells, call, |lent| reference::steps(answers, lent)).map_err(report)
 }
 
@@ -68,7 +78,7 @@ pub fn pick(
     by: Picks,
 ) -> Checked {
     let call = |lent: &mut [u32]| calls.pick(pattern, log, k, lent);
-    let report = |what| format!("picks: {what}\n  pattern {}\n  log {}\n  k {k}, cells {cells}", show(pattern), show(log));
+    let report = |what| format!("picks: {what}\n  {}\n  k {k}, cells {cells}", input(pattern, log));
     same(rng, cells, call, |lent| reference::pick(answers, k, lent, by)).map_err(report)
 }
 
@@ -186,8 +196,7 @@ pub fn case(calls: &dyn Calls, rng: &mut Rng, pattern: &str, log: &str, due: Res
     let (pattern, log) = (pattern.as_bytes(), log.as_bytes());
     for answers in [reference::answers(pattern, log), quick::answers(pattern, log)] {
         if answers != due {
-            let input = format!("pattern {}\n  log {}", show(pattern), show(log));
-            return Err(format!("by reference {answers:?}, should be {due:?}\n  {input}"));
+            return Err(format!("by reference {answers:?}, should be {due:?}\n  {}", input(pattern, log)));
         }
     }
     let cells = 2 * reference::lines(log).len() + 1;
@@ -203,7 +212,7 @@ pub fn pick_laws(calls: &dyn Calls, pattern: &[u8], log: &[u8], (k, cells): (u32
     let mut lent = vec![0; cells];
     let result = calls.pick(pattern, log, k, &mut lent);
     let law = |holds: bool, broken: &str| {
-        let report = || format!("{broken}: result {result:#x}\n  pattern {}\n  log {}\n  k {k}, cells {cells}", show(pattern), show(log));
+        let report = || format!("{broken}: result {result:#x}\n  {}\n  k {k}, cells {cells}", input(pattern, log));
         holds.then_some(()).ok_or_else(report)
     };
     let list = whole(calls, pattern, log);
@@ -221,7 +230,7 @@ pub fn pick_laws(calls: &dyn Calls, pattern: &[u8], log: &[u8], (k, cells): (u32
 }
 
 /// Leaves out parts of a log's lines as long as `differs` still reports; at most 200 tries, fewer of long logs.
-fn shorten(log: &[u8], differs: impl Fn(&[u8]) -> Checked) -> Checked {
+pub fn shorten(log: &[u8], differs: impl Fn(&[u8]) -> Checked) -> Checked {
     let mut kept = reference::lines(log);
     let mut report = differs(log);
     let (mut part, mut tries, mut bytes) = (kept.len().div_ceil(2), 0, 0);

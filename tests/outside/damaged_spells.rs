@@ -75,10 +75,7 @@ pub fn long(t: &Trial) -> Outcome {
 
 /// At most `most` bytes of whole lines with spells of damaged ones among them.
 fn whole_lines(rng: &mut Rng, lines: usize, most: usize) -> Vec<u8> {
-    let mut log = spell_inputs::spelled(rng, lines, most - 100);
-    if log.last().is_some_and(|&b| b != b'\n') {
-        log.push(b'\n');
-    }
+    let mut log = inputs::ended(spell_inputs::spelled(rng, lines, most - 100));
     if rng.once_in(2) {
         log = spell_inputs::with_rare(rng, &log);
     }
@@ -147,11 +144,8 @@ pub fn runs(t: &Trial) -> Outcome {
         for list in [compare::whole, by_steps] {
             let (alone, within) = (list(t.calls, &pattern, &run), list(t.calls, &pattern, &log).map(within));
             if within != alone {
-                let shown = [&pattern, &run, &log].map(|text| compare::show(text));
-                return Err(format!(
-                    "within the run {within:?}, alone {alone:?}\n  pattern {}\n  run {}\n  log {}, {r} lines before the run",
-                    shown[0], shown[1], shown[2]
-                ));
+                let input = compare::input_with_run(&pattern, &run, &log, r);
+                return Err(format!("within the run {within:?}, alone {alone:?}\n  {input}"));
             }
         }
     }

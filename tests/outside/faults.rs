@@ -7,6 +7,7 @@ use crate::plain::{Plain, RIGHT};
 use crate::quick;
 use crate::reference::{self as r, refused, Apply, List, Op, Record, Refusal, Stretch, Tree, LOG_MAX};
 use crate::spell_faults;
+use crate::witness_faults;
 use std::cmp::Reverse;
 
 /// Short enough for the literal definitions.
@@ -106,6 +107,7 @@ pub fn variants() -> Vec<(&'static str, Plain)> {
     all.extend(over_steps());
     all.extend(over_log_alone());
     all.extend(pick_faults::variants());
+    all.extend(witness_faults::variants());
     all
 }
 

@@ -91,6 +91,32 @@ static void cells_enough(void)
     CHECK(finder_fill((const uint8_t *)"ev,7,0", 6, (const uint8_t *)log, strlen(log), cells, count - 1, 0) == (1 << 8 | (uint64_t)2 << 32));
 }
 
+/* Three cells for each node are enough where every node takes part, and fewer are not; later ones keep their contents. */
+static void nodes_shown(void)
+{
+    static const char log[] = "1,4,7,3,6\noops\n1,5,7,0,0\n";
+    static char pattern[512] = "and,31";
+    uint32_t cells[3 * FINDER_NODES_MAX + 1];
+    for (size_t i = 0; i < FINDER_NODES_MAX - 1; i++)
+        strcat(pattern, ",ev,7,0");
+    for (size_t count = 3 * FINDER_NODES_MAX - 3; count <= 3 * FINDER_NODES_MAX + 1; count++) {
+        for (size_t i = 0; i <= 3 * FINDER_NODES_MAX; i++)
+            cells[i] = 99;
+        uint64_t result = finder_witness((const uint8_t *)pattern, strlen(pattern), (const uint8_t *)log, strlen(log), 1, cells, count);
+        CHECK(finder_refusal(result) == FINDER_ACCEPTED && finder_place(result) == 0 && !finder_more(result));
+        CHECK(finder_written(result) == (count < 3 * FINDER_NODES_MAX ? FINDER_NODES_MAX - 1 : FINDER_NODES_MAX));
+        for (size_t i = 0; i < 3 * finder_written(result); i += 3)
+            CHECK(cells[i] == i / 3 && cells[i + 1] == 2 && cells[i + 2] == 2);
+        for (size_t i = 3 * finder_written(result); i <= 3 * FINDER_NODES_MAX; i++)
+            CHECK(cells[i] == 99);
+    }
+    cells[0] = cells[1] = cells[2] = 99;
+    CHECK(finder_witness((const uint8_t *)pattern, strlen(pattern), (const uint8_t *)log, strlen(log), 2, cells, 3) == 0);
+    CHECK(finder_witness((const uint8_t *)"ev,256,0", 8, (const uint8_t *)log, strlen(log), 0, cells, 3) == (FINDER_MISSPELT | 5 << 16));
+    CHECK(finder_witness((const uint8_t *)pattern, strlen(pattern), zeros, FINDER_LOG_MAX + 1, 0, cells, 3) == FINDER_LONG_LOG);
+    CHECK(cells[0] == 99 && cells[1] == 99 && cells[2] == 99);
+}
+
 static void words(void)
 {
     static const char *const expected[] = {"accepted", "long log", "long pattern", "misspelt", "crowded", "deep", "miscalled", "miscut",
@@ -134,6 +160,7 @@ int main(void)
 {
     limits();
     cells_enough();
+    nodes_shown();
     words();
     readers();
     return failures != 0;

@@ -55,7 +55,7 @@ static uint8_t *text(const char *const *pieces, uint32_t count, size_t n)
 }
 
 /* Branches on every cell that a call says it wrote. */
-static unsigned sum, feeds, picked;
+static unsigned sum, feeds, picked, shown;
 
 static void use(const uint32_t *cells, size_t written)
 {
@@ -118,6 +118,33 @@ static void over_picks(const uint8_t *pattern, size_t pattern_len, const uint8_t
     free(cells);
 }
 
+/* The call that shows what made an answer: refused as the filling call was, or else nodes that rise, with stretches inside the answer,
+   which is the first one's. */
+static void over_witness(const uint8_t *pattern, size_t pattern_len, const uint8_t *log, size_t log_len, uint64_t filled)
+{
+    uint64_t number = below(8) == 0 ? UINT64_MAX - below(3) : below(4);
+    size_t cell_count = below(3 * FINDER_NODES_MAX + 4);
+    uint32_t answer[2], *cells = block(cell_count * sizeof *cells);
+    uint64_t result = finder_witness(pattern, pattern_len, log, log_len, number, cells, cell_count);
+    size_t written = finder_written(result);
+    if (finder_refusal(filled) != FINDER_ACCEPTED)
+        must(result == filled, "an answer is refused otherwise than stretches");
+    else
+        must((result & 0xffffffff) == 0 && written <= FINDER_NODES_MAX && written <= cell_count / 3,
+            "more nodes shown than there are, or than cells hold");
+    use(cells, 3 * written);
+    int exists = finder_written(finder_fill(pattern, pattern_len, log, log_len, answer, 2, number)) == 1;
+    must(cell_count < 3 || exists == (written > 0), "an answer is not shown, or one that does not exist");
+    for (size_t i = 0; i < written; i++) {
+        const uint32_t *part = cells + 3 * i;
+        must(i == 0 ? part[0] == 0 && part[1] == answer[0] && part[2] == answer[1] : part[0] > part[-3] && part[0] < FINDER_NODES_MAX,
+            "the first node has not the answer, or the nodes do not rise");
+        must(answer[0] <= part[1] && part[1] <= part[2] && part[2] <= answer[1], "a stretch is not inside the answer");
+        shown++;
+    }
+    free(cells);
+}
+
 static void over_log(void)
 {
     const char *pattern_text = patterns[below(COUNT(patterns))];
@@ -139,6 +166,7 @@ static void over_log(void)
     uint64_t result = finder_fill(pattern, pattern_len, log, log_len, cells, cell_count, from);
     use(cells, 2 * (size_t)finder_written(result));
     over_picks(pattern, pattern_len, log, log_len, result);
+    over_witness(pattern, pattern_len, log, log_len, result);
     over_lines(log, log_len);
     free(pattern);
     free(log);
@@ -187,10 +215,10 @@ int main(int argc, char **argv)
         over_log();
         over_lists();
     }
-    if (sum == 0 || feeds == 0 || picked == 0) {
-        puts("hostile: no call wrote anything, no part had a line feed, or never were two picks made, so nothing was tried");
+    if (sum == 0 || feeds == 0 || picked == 0 || shown == 0) {
+        puts("hostile: no call wrote anything, no part had a line feed, never were two picks made, or no node shown, so nothing was tried");
         return 1;
     }
-    printf("hostile: %d calls, no fault\n", 6 * rounds);
+    printf("hostile: %d calls, no fault\n", 8 * rounds);
     return 0;
 }

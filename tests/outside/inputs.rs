@@ -247,6 +247,14 @@ pub fn log(rng: &mut Rng, lines: usize, damage: usize) -> Vec<u8> {
     log
 }
 
+/// A log with its last line ended.
+pub fn ended(mut log: Vec<u8>) -> Vec<u8> {
+    if log.last().is_some_and(|&b| b != b'\n') {
+        log.push(b'\n');
+    }
+    log
+}
+
 /// At most `most` bytes: sound lines far apart, with up to `gap` empty lines before each.
 pub fn sparse(rng: &mut Rng, gap: usize, most: usize) -> Vec<u8> {
     let mut log = Vec::new();

@@ -5,7 +5,8 @@ use crate::compare::{self, Lists};
 use crate::inputs::{self, Rng};
 use crate::over_logs::SHEET_LOG;
 use crate::reference::{self, List, Op, Refusal, Stretch, OPS};
-use crate::{lent, quick, Outcome, Trial};
+use crate::witnesses::{BY_DEFINITION, QUICK};
+use crate::{lent, quick, shown, witness_inputs, Outcome, Trial};
 use std::collections::HashSet;
 
 fn agree<T: PartialEq + std::fmt::Debug>(what: &str, a: T, b: T, input: impl FnOnce() -> String) -> Result<(), String> {
@@ -58,6 +59,16 @@ pub fn reference(t: &Trial) -> Outcome {
         let lines = reference::read_log(&log).iter().map(|l| l.map(|r| (r.lane, r.code, r.frame))).collect();
         agree("lines literal and quick", lines, quick_lines, input)?;
         count += 2;
+    }
+    for _ in 0..t.rounds(4_000) {
+        let log = witness_inputs::some_log(&mut rng, 20);
+        let pattern = witness_inputs::finding(&mut rng, &log).spell();
+        let [literal, quick] = [BY_DEFINITION, QUICK].map(|ways| {
+            let root = (ways.outermost)(pattern.as_bytes(), &log);
+            root.map(|root| (0..=root.list.len() as u64).map(|number| shown::of_number(&root, number, ways.below)).collect::<Vec<_>>())
+        });
+        agree("what is shown, literal and quick", literal, quick, || format!("{pattern}\n  {}", compare::show(&log)))?;
+        count += 1;
     }
     for base in ["1,4,7,3,6\n", "1,04,7,3,6\n", "2,10,100,300,10,10\n"] {
         for line in inputs::edits(base.as_bytes()) {

@@ -18,9 +18,17 @@ mod picking;
 mod plain;
 mod quick;
 mod reference;
+mod shown;
+mod shown_faults;
 mod spell_faults;
 mod spell_inputs;
+mod triple_faults;
+mod witness_faults;
+mod witness_inputs;
+mod witness_laws;
+mod witnesses;
 mod worked_spells;
+mod worked_witnesses;
 
 use std::collections::BTreeSet;
 
@@ -43,7 +51,7 @@ pub type Outcome = Result<usize, String>;
 type Group = (&'static str, fn(&Trial) -> Outcome);
 
 /// Groups that try the calls on seeded inputs.
-const SEEDED: [Group; 22] = [
+const SEEDED: [Group; 27] = [
     ("patterns", over_logs::patterns),
     ("lines", over_logs::lines),
     ("logs", over_logs::logs),
@@ -66,9 +74,14 @@ const SEEDED: [Group; 22] = [
     ("refused picks", picking::refused),
     ("long picks", picking::long),
     ("laws of picks", picking::laws),
+    ("witnesses", witnesses::witnesses),
+    ("refused witnesses", witnesses::refused),
+    ("long witnesses", witnesses::long),
+    ("laws of witnesses", witness_laws::laws),
+    ("witnesses in runs", witness_laws::runs),
 ];
 
-const FIXED: [Group; 7] = [
+const FIXED: [Group; 8] = [
     ("reference", itself::reference),
     ("worked cases", itself::cases),
     ("lane fields", lanes::cases),
@@ -76,6 +89,7 @@ const FIXED: [Group; 7] = [
     ("samples", over_logs::samples),
     ("log alone", log_alone::cases),
     ("worked picks", picking::cases),
+    ("worked witnesses", worked_witnesses::cases),
 ];
 
 /// Runs all groups on the archive; gives the number that failed.

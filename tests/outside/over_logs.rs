@@ -3,6 +3,8 @@
 use crate::compare::{self, Checked, Search};
 use crate::inputs::{self, Rng};
 use crate::reference::{self, List, Op, Stretch, Tree, LOG_MAX, PATTERN_MAX};
+use crate::shown::ENOUGH;
+use crate::witnesses::{self, Witness};
 use crate::{quick, Outcome, Trial};
 
 /// The log of docs/FORMATS.md, "The printed sheet".
@@ -162,11 +164,7 @@ pub fn runs(t: &Trial) -> Outcome {
     let mut rng = Rng(6);
     let whole = |rng: &mut Rng, most: usize| {
         let lines = rng.below(most);
-        let mut log = inputs::log(rng, lines, 5);
-        if log.last().is_some_and(|&b| b != b'\n') {
-            log.push(b'\n');
-        }
-        log
+        inputs::ended(inputs::log(rng, lines, 5))
     };
     for _ in 0..t.rounds(6_000) {
         let most = if rng.once_in(40) { 1_000 } else { 20 };
@@ -184,11 +182,8 @@ pub fn runs(t: &Trial) -> Outcome {
                 inside.map(|a| Stretch { s: a.s - r, e: a.e - r }).collect::<List>()
             });
             if within != alone {
-                let shown = [&pattern, &run, &log].map(|text| compare::show(text));
-                return Err(format!(
-                    "within the run {within:?}, alone {alone:?}\n  pattern {}\n  run {}\n  log {}, {r} lines before the run",
-                    shown[0], shown[1], shown[2]
-                ));
+                let input = compare::input_with_run(&pattern, &run, &log, r);
+                return Err(format!("within the run {within:?}, alone {alone:?}\n  {input}"));
             }
         }
     }
@@ -243,7 +238,11 @@ pub fn samples(t: &Trial) -> Outcome {
         search.fill(&mut Rng(7), 2 * search.found() + 1, 0)?;
         search.steps(&mut Rng(7), 2 * search.found() + 1)?;
         search.pick(&mut Rng(7), (16, 33), quick::picks)?;
-        count += 3;
+        let witness = Witness::new(t.calls, pattern.as_bytes(), &log, witnesses::QUICK);
+        for number in [0, search.found() as u64 - 1] {
+            witness.show(&mut Rng(7), number, ENOUGH)?;
+        }
+        count += 5;
     }
     if !shown {
         return Err("no sample pattern with max finds a stretch of more lines than k".into());

@@ -168,7 +168,7 @@ fn over_counts() -> Vec<(&'static str, Plain)> {
         ("0 picks accepted", pick(|answers, k, cells| if k == 0 { unbounded(answers, k, cells) } else { right(answers, k, cells) })),
         ("1 pick refused", pick(|answers, k, cells| right(answers, if k == 1 { 0 } else { k }, cells))),
         ("16 picks refused", pick(|answers, k, cells| right(answers, if k == 16 { 0 } else { k }, cells))),
-        ("k cut to 8 bits", pick(|answers, k, cells| right(answers, k & 0xff, cells))),
+        ("the number of picks cut to 8 bits", pick(|answers, k, cells| right(answers, k & 0xff, cells))),
         ("k cut to 16 bits", pick(|answers, k, cells| right(answers, k & 0xffff, cells))),
         ("k without its highest bit", pick(|answers, k, cells| right(answers, k & 0x7fff_ffff, cells))),
         ("10 before 1", pick(|answers, k, cells| early(answers, k, cells, 1))),
@@ -262,7 +262,7 @@ fn over_handing_back() -> Vec<(&'static str, Plain)> {
             }),
         ),
         (
-            "a start in an odd last cell",
+            "a start of a pick in an odd last cell",
             pick(|answers, k, cells| {
                 let mut more = cells.to_vec();
                 more.push(0);

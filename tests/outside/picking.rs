@@ -208,8 +208,8 @@ pub fn cases(t: &Trial) -> Outcome {
             let mut given = vec![77; *cells];
             let result = way(&mut given);
             if (result, &given) != (word, &wanted) {
-                let input = format!("pattern {}\n  log {}\n  k {k}, cells {cells}", compare::show(pattern), compare::show(log));
-                return Err(format!("{how} {result:#x} and {given:?}, should be {word:#x} and {wanted:?}\n  {input}"));
+                let input = compare::input(pattern, log);
+                return Err(format!("{how} {result:#x} and {given:?}, should be {word:#x} and {wanted:?}\n  {input}\n  k {k}, cells {cells}"));
             }
         }
     }

@@ -4,6 +4,7 @@ use crate::calls::Calls;
 use crate::lent::{self, Taken};
 use crate::quick;
 use crate::reference::{self as r, refused, Apply, List, Op, Record, Refusal, Stretch, Tree, LOG_MAX};
+use crate::shown::{self, Node, Triple, Way};
 
 /// The calls over a pattern and a log.
 #[derive(Clone, Copy, PartialEq, Eq)]
@@ -29,6 +30,10 @@ pub struct Plain {
     pub steps: fn(&Result<List, Refusal>, &mut [u32]) -> u64,
     pub pick: fn(&Result<List, Refusal>, u32, &mut [u32]) -> u64,
     pub pick_in: fn(&Plain, &[u8], &Result<List, Refusal>, u32, &mut [u32]) -> u64,
+    pub node: fn(&Plain, &Tree, &[u8]) -> Node,
+    pub below: Way,
+    pub shown: fn(&Plain, &Node, u64) -> Vec<Triple>,
+    pub witness: fn(&Result<Vec<Triple>, Refusal>, &mut [u32]) -> u64,
     pub take: fn(&Result<Taken, Refusal>, &mut [u32]) -> u64,
     pub count: fn(&[u8]) -> u64,
     pub lines: fn(&[u8], u32, u32) -> u64,
@@ -53,6 +58,13 @@ pub const RIGHT: Plain = Plain {
     steps: r::steps,
     pick: |answers, k, cells| r::pick(answers, k, cells, quick::picks),
     pick_in: |parts, _, answers, k, cells| (parts.pick)(answers, k, cells),
+    node: |parts, tree, log| {
+        let lines = (parts.log)(log);
+        shown::node(tree, 0, &lines, parts.apply, &|a| (parts.sound_lines)(&lines, a))
+    },
+    below: shown::quick_below,
+    shown: |parts, root, number| shown::of_number(root, number, parts.below),
+    witness: shown::write,
     take: lent::take,
     count: r::count,
     lines: |log, first, last| r::part_result(r::part(log, first, last)),
@@ -75,6 +87,11 @@ impl Calls for Plain {
 
     fn pick(&self, pattern: &[u8], log: &[u8], k: u32, cells: &mut [u32]) -> u64 {
         (self.pick_in)(self, log, &self.answers(Call::Pick, pattern, log), k, cells)
+    }
+
+    fn witness(&self, pattern: &[u8], log: &[u8], number: u64, cells: &mut [u32]) -> u64 {
+        let root = (self.accept)(self, pattern, log).map(|tree| (self.node)(self, &tree, log));
+        (self.witness)(&root.map(|root| (self.shown)(self, &root, number)), cells)
     }
 
     fn lists_fill(&self, op: u32, k: u32, items: &[u32], ends: &[u32], cells: &mut [u32], from: u64) -> u64 {

@@ -136,13 +136,17 @@ fn without_max(rng: &mut Rng) -> Tree {
     }
 }
 
+/// A pattern is accepted with a log, and has an answer in it.
+pub fn finds(tree: &Tree, log: &[u8]) -> bool {
+    quick::answers(tree.spell().as_bytes(), log).is_ok_and(|list| !list.is_empty())
+}
+
 /// A pattern with several `max`, over and under every operator, each k about what some stretch in a log has; mostly one that without them finds
 /// something.
 pub fn with_max(rng: &mut Rng, log: &[u8]) -> Tree {
-    let finds = |tree: &Tree| quick::answers(tree.spell().as_bytes(), log).is_ok_and(|list| !list.is_empty());
     let mut tree = without_max(rng);
     for _ in 0..2 {
-        if !finds(&tree) {
+        if !finds(&tree, log) {
             tree = without_max(rng);
         }
     }

@@ -12,10 +12,11 @@
 
 enum { STACK = 1 << 20, GAP = 1 << 14, PAINT = 0xa5 };
 
-/* Eight deep, and each operator once. */
+/* Eight deep, and each operator once; in the second all of these take part in an answer, which is three lines. */
 static const char pattern[] = "max,9,less,max,9,or,2,and,2,then,2,row,2,ev,1,0,ev,2,0,ev,3,0,ev,4,0,fr,1,0,ev,7,0";
+static const char threes[] = "max,9,less,max,9,or,2,and,2,then,2,row,2,ev,1,0,fr,1,0,ev,1,4,fr,1,4,ev,3,0,ev,7,0";
 static uint8_t log_bytes[FINDER_LOG_MAX];
-static size_t log_len;
+static size_t log_len, sound; /* the sound lines come first */
 static uint32_t cells[2 * FINDER_LOG_MAX], items[2 * FINDER_LISTS_MAX], ends[FINDER_LISTS_MAX], counts[FINDER_LISTS_MAX];
 
 /* Each call, and whether it did its work. */
@@ -27,11 +28,18 @@ static int fill(void)
         == FINDER_ACCEPTED;
 }
 
-/* Every line is an answer. */
+/* Every sound line is an answer. */
 static int pick(void)
 {
     return finder_pick((const uint8_t *)pattern, sizeof pattern - 1, log_bytes, log_len, FINDER_PICKS_MAX, cells, 2 * FINDER_LOG_MAX)
-        == (uint64_t)(log_len / 10 < FINDER_PICKS_MAX ? log_len / 10 : FINDER_PICKS_MAX) << 32;
+        == (uint64_t)(sound < FINDER_PICKS_MAX ? sound : FINDER_PICKS_MAX) << 32;
+}
+
+/* The last answer. */
+static int witness(void)
+{
+    return finder_witness((const uint8_t *)threes, sizeof threes - 1, log_bytes, log_len, sound - 3, cells, 2 * FINDER_LOG_MAX)
+        == (uint64_t)11 << 32;
 }
 
 static int count(void) { return finder_counted_lines(finder_count(log_bytes, log_len)) == log_len / 10; }
@@ -105,17 +113,26 @@ int main(void)
     int bad = 0;
     for (log_len = 0; log_len < FINDER_LOG_MAX; log_len++)
         log_bytes[log_len] = (uint8_t)"1,4,1,1,6\n"[log_len % 10];
+    sound = log_len / 10;
     for (size_t i = 0; i < FINDER_LISTS_MAX; i++) {
         items[2 * i] = items[2 * i + 1] = (uint32_t)i;
         ends[i] = (uint32_t)(2 * i + 2);
     }
     bad |= measure("finder_fill, a full log,", fill, FINDER_STACK_FILL);
     bad |= measure("finder_pick, a full log,", pick, FINDER_STACK_FILL);
+    bad |= measure("finder_witness, a full log,", witness, FINDER_STACK_FILL);
     bad |= measure("finder_count", count, FINDER_STACK_OTHERS);
     bad |= measure("finder_lines", lines, FINDER_STACK_OTHERS);
-    log_len = 30;
+    sound = 3;
+    for (size_t i = 10 * sound; i < log_len; i++)
+        log_bytes[i] = '\n';
+    bad |= measure("finder_fill, the most lines,", fill, FINDER_STACK_FILL);
+    bad |= measure("finder_pick, the most lines,", pick, FINDER_STACK_FILL);
+    bad |= measure("finder_witness, the most lines,", witness, FINDER_STACK_FILL);
+    log_len = 10 * sound;
     bad |= measure("finder_fill, three lines,", fill, FINDER_STACK_FILL);
     bad |= measure("finder_pick, three lines,", pick, FINDER_STACK_FILL);
+    bad |= measure("finder_witness, three lines,", witness, FINDER_STACK_FILL);
     bad |= measure("finder_lists_fill", lists_fill, FINDER_STACK_OTHERS);
     bad |= measure("finder_lists_take", lists_take, FINDER_STACK_OTHERS);
     return bad;
