@@ -23,6 +23,15 @@ extern "C" {
         cells: *mut u32,
         cell_count: usize,
     ) -> u64;
+    fn finder_witness(
+        pattern: *const u8,
+        pattern_len: usize,
+        log: *const u8,
+        log_len: usize,
+        number: u64,
+        cells: *mut u32,
+        cell_count: usize,
+    ) -> u64;
     fn finder_count(log: *const u8, log_len: usize) -> u64;
     fn finder_lines(log: *const u8, log_len: usize, first: u32, last: u32) -> u64;
 }
@@ -30,6 +39,7 @@ extern "C" {
 pub const LOG_MAX: usize = 61_440;
 pub const PATTERN_MAX: usize = 1_024;
 pub const PICKS_MAX: usize = 16;
+const NODES_MAX: usize = 32;
 const BAD_COUNT: u64 = 10;
 
 /// The refusals that a pattern over a log can get.
@@ -50,7 +60,7 @@ pub enum Unanswered {
 }
 
 /// The lines from first to last, both included.
-#[derive(Clone, Copy)]
+#[derive(Clone, Copy, PartialEq)]
 pub struct Stretch {
     pub first: u32,
     pub last: u32,
@@ -116,12 +126,31 @@ pub fn picks(pattern: &[u8], log: &[u8], lines: usize, k: u32) -> Result<Vec<Str
 /// The stretches that an accepted call has written into cells.
 fn written(cells: &[u32], result: u64, lines: usize) -> Result<Vec<Stretch>, Unanswered> {
     let written = cells.get(..2 * (result >> 32) as usize).ok_or(Broken("more stretches than cells"))?;
-    let found: Vec<Stretch> = written.chunks_exact(2).map(|pair| Stretch { first: pair[0], last: pair[1] }).collect();
-    let sound = found.iter().all(|stretch| stretch.first <= stretch.last && (stretch.last as usize) < lines);
-    if sound {
-        Ok(found)
+    written.chunks_exact(2).map(|pair| within(pair[0], pair[1], lines)).collect()
+}
+
+/// The lines from first to last of a log of so many lines.
+fn within(first: u32, last: u32, lines: usize) -> Result<Stretch, Unanswered> {
+    if first <= last && (last as usize) < lines {
+        Ok(Stretch { first, last })
     } else {
         Err(Broken("a stretch of lines that the log does not have"))
+    }
+}
+
+/// The nodes that took part in the stretch of this number, each by its own number and with its own stretch, in node order; none where there is
+/// no such stretch.
+pub fn witness(pattern: &[u8], log: &[u8], lines: usize, number: u64) -> Result<Vec<(usize, Stretch)>, Unanswered> {
+    let mut cells = [0; 3 * NODES_MAX];
+    let result = unsafe { finder_witness(pattern.as_ptr(), pattern.len(), log.as_ptr(), log.len(), number, cells.as_mut_ptr(), cells.len()) };
+    accepted(result)?;
+    let written = cells.get(..3 * (result >> 32) as usize).ok_or(Broken("more nodes than cells"))?;
+    let shown = written.chunks_exact(3).map(|node| Ok((node[0] as usize, within(node[1], node[2], lines)?)));
+    let shown = shown.collect::<Result<Vec<_>, _>>()?;
+    if shown.is_sorted_by(|node, next| node.0 < next.0) {
+        Ok(shown)
+    } else {
+        Err(Broken("nodes out of order"))
     }
 }
 

@@ -11,6 +11,7 @@ mod search;
 mod sheet;
 mod streams;
 mod text;
+mod tree;
 
 use options::Request;
 use std::io::{self, BufWriter, Write};

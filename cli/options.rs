@@ -5,6 +5,7 @@ use crate::text::{name, prose, shown};
 use std::collections::VecDeque;
 use std::ffi::{OsStr, OsString};
 use std::os::unix::ffi::{OsStrExt, OsStringExt};
+use std::str::FromStr;
 
 /// What is printed of an answer.
 #[derive(Clone, Copy, PartialEq)]
@@ -21,10 +22,19 @@ pub enum Patterns {
     From(Source),
 }
 
+/// Which stretches are wanted.
+#[derive(Clone, Copy)]
+pub enum Wanted {
+    All,
+    /// Up to so many picks.
+    Picks(u32),
+    /// The one of this number, with the nodes that took part in it.
+    Why(u64),
+}
+
 pub struct Search {
     pub form: Form,
-    /// How many picks are wanted, instead of all stretches.
-    pub picks: Option<u32>,
+    pub wanted: Wanted,
     pub patterns: Patterns,
     pub log: Source,
 }
@@ -40,6 +50,7 @@ pub enum Request {
 struct Met {
     form: Option<Form>,
     picks: Option<u32>,
+    why: Option<u64>,
     file: Option<OsString>,
     help: bool,
     version: bool,
@@ -72,6 +83,7 @@ impl Met {
             b"version" => self.version = true,
             b"file" => self.file(rest.next())?,
             b"pick" => self.picks(rest.next())?,
+            b"why" => self.why(rest.next())?,
             _ => return self.long_with_value(option),
         }
         Ok(())
@@ -83,6 +95,8 @@ impl Met {
             self.file(Some(file))
         } else if let Some(number) = value(b"pick=") {
             self.picks(Some(number))
+        } else if let Some(number) = value(b"why=") {
+            self.why(Some(number))
         } else {
             Err(format!("unknown option --{}", prose(option)))
         }
@@ -113,22 +127,15 @@ impl Met {
     }
 
     fn file(&mut self, file: Option<OsString>) -> Result<(), String> {
-        let file = file.ok_or("-f needs a file of patterns")?;
-        match self.file.replace(file) {
-            None => Ok(()),
-            Some(_) => Err("-f is given twice".into()),
-        }
+        once(&mut self.file, file.ok_or("-f needs a file of patterns")?, "-f")
     }
 
-    /// Which numbers are good is for the call to say; one that does not fit becomes the largest, which is as bad.
-    fn picks(&mut self, number: Option<OsString>) -> Result<(), String> {
-        let number = number.filter(|number| !number.is_empty()).ok_or("-p needs a number of picks")?;
-        let digits = number.to_str().filter(|text| text.bytes().all(|byte| byte.is_ascii_digit()));
-        let k = digits.ok_or_else(|| format!("-p needs a number of picks, not {}", name(&number)))?.parse().unwrap_or(u32::MAX);
-        match self.picks.replace(k) {
-            None => Ok(()),
-            Some(_) => Err("-p is given twice".into()),
-        }
+    fn picks(&mut self, value: Option<OsString>) -> Result<(), String> {
+        once(&mut self.picks, number(value, "-p needs a number of picks", u32::MAX)?, "-p")
+    }
+
+    fn why(&mut self, value: Option<OsString>) -> Result<(), String> {
+        once(&mut self.why, number(value, "--why needs a stretch's number", u64::MAX)?, "--why")
     }
 
     fn request(mut self) -> Result<Request, String> {
@@ -139,9 +146,13 @@ impl Met {
             return Ok(Request::Version);
         }
         let form = self.form.unwrap_or(Form::Stretches);
-        if form == Form::Sheet && self.picks.is_some() {
-            return Err("--sheet prints every stretch, not picks".into());
-        }
+        let wanted = match (self.why, self.picks) {
+            (Some(number), None) if matches!(form, Form::Stretches | Form::Show) => Wanted::Why(number),
+            (Some(_), _) => return Err("--why excludes --pick, --count, --quiet and --sheet".into()),
+            (None, Some(_)) if form == Form::Sheet => return Err("--sheet prints every stretch, not picks".into()),
+            (None, Some(k)) => Wanted::Picks(k),
+            (None, None) => Wanted::All,
+        };
         let patterns = match self.file.take() {
             Some(_) if form == Form::Sheet => return Err("--sheet takes one pattern, not -f".into()),
             Some(file) => Patterns::From(Source::named(file)),
@@ -154,6 +165,22 @@ impl Met {
         if matches!((&patterns, &log), (Patterns::From(Source::Standard), Source::Standard)) {
             return Err("patterns and log cannot both come from standard input".into());
         }
-        Ok(Request::Search(Search { form, picks: self.picks, patterns, log }))
+        Ok(Request::Search(Search { form, wanted, patterns, log }))
     }
+}
+
+/// Keeps the value of an option that may be given once.
+fn once<T>(kept: &mut Option<T>, value: T, option: &str) -> Result<(), String> {
+    match kept.replace(value) {
+        None => Ok(()),
+        Some(_) => Err(format!("{option} is given twice")),
+    }
+}
+
+/// The number that an option needs. Which numbers are good is for the calls to say; one that does not fit becomes the largest, which is as
+/// bad.
+fn number<N: FromStr>(value: Option<OsString>, needs: &str, largest: N) -> Result<N, String> {
+    let value = value.filter(|value| !value.is_empty()).ok_or(needs)?;
+    let digits = value.to_str().filter(|text| text.bytes().all(|byte| byte.is_ascii_digit()));
+    Ok(digits.ok_or_else(|| format!("{needs}, not {}", name(&value)))?.parse().unwrap_or(largest))
 }

@@ -5,6 +5,7 @@ use crate::input::{Log, Titled};
 use crate::options::Form;
 use crate::paint::{Paint, BOLD, CYAN, RED, YELLOW};
 use crate::text::{grouped, lines, of, pointed, prose, safe, stretches};
+use crate::tree::Node;
 use crate::Fault;
 use std::io::{self, Write};
 
@@ -65,24 +66,33 @@ fn sound_without_return(line: &[u8]) -> bool {
     line.strip_suffix(b"\r\n").is_some_and(|text| calls::sound(&[text, b"\n"].concat()))
 }
 
-/// What is found of a pattern: all stretches, or picks of them.
-pub struct Found {
-    pub listed: Vec<Stretch>,
-    pub picked: Option<Picked>,
-}
-
-/// How many picks were asked for, and of how many stretches.
-pub struct Picked {
-    pub k: u32,
-    pub stretches: usize,
+/// What is found of a pattern: all stretches, up to k picks of so many, or of so many the one of a number, as a tree, if there is such a one.
+pub enum Found {
+    All(Vec<Stretch>),
+    Picks { k: u32, picks: Vec<Stretch>, stretches: usize },
+    Why { number: u64, tree: Option<Vec<Node>>, stretches: usize },
 }
 
 impl Found {
+    /// How many stretches are printed.
+    pub fn number(&self) -> usize {
+        match self {
+            Found::All(listed) | Found::Picks { picks: listed, .. } => listed.len(),
+            Found::Why { tree, .. } => usize::from(tree.is_some()),
+        }
+    }
+
     fn in_words(&self) -> String {
-        let listed = self.listed.len();
-        match self.picked {
-            None => stretches(listed),
-            Some(Picked { k, stretches: all }) => format!("{}, {listed} of {}", stretches(all), of(k as usize, "pick", "picks")),
+        match self {
+            Found::All(listed) => stretches(listed.len()),
+            Found::Picks { k, picks, stretches: all } => {
+                format!("{}, {} of {}", stretches(*all), picks.len(), of(*k as usize, "pick", "picks"))
+            }
+            Found::Why { number, tree: Some(_), stretches: all } => format!("{}, number {number}", stretches(*all)),
+            Found::Why { number, tree: None, stretches: all } => {
+                let more = if *number == u64::MAX { " or more" } else { "" };
+                format!("{}, none with number {number}{more}", stretches(*all))
+            }
         }
     }
 }
@@ -91,6 +101,8 @@ impl Found {
 pub struct Report<'a> {
     pub log: &'a [u8],
     pub count: Count,
+    /// What is told to count from 0.
+    pub counted: &'static str,
     pub form: Form,
     pub paint: Paint,
     pub out: Box<dyn Write>,
@@ -100,11 +112,11 @@ impl Report<'_> {
     /// The answer to the only pattern.
     pub fn answer(&mut self, found: &Found) -> Result<(), Fault> {
         if self.form == Form::Count {
-            return Ok(writeln!(self.out, "{}", found.listed.len())?);
+            return Ok(writeln!(self.out, "{}", found.number())?);
         }
         let first = format!("{}; {}", self.log_in_words(), found.in_words());
-        writeln!(self.out, "{} (lines count from 0)", self.paint.paint(BOLD, &first))?;
-        self.list(&found.listed)
+        writeln!(self.out, "{} ({} count from 0)", self.paint.paint(BOLD, &first), self.counted)?;
+        self.found(found)
     }
 
     /// The first line of answers to several patterns.
@@ -112,7 +124,7 @@ impl Report<'_> {
         if self.form == Form::Count {
             return Ok(());
         }
-        Ok(writeln!(self.out, "{} (lines count from 0)\n", self.paint.paint(BOLD, &self.log_in_words()))?)
+        Ok(writeln!(self.out, "{} ({} count from 0)\n", self.paint.paint(BOLD, &self.log_in_words()), self.counted)?)
     }
 
     /// A pattern below its title, before its answer.
@@ -128,7 +140,7 @@ impl Report<'_> {
         if self.form == Form::Count {
             Ok(())
         } else {
-            self.list(&found.listed)
+            self.found(found)
         }
     }
 
@@ -137,16 +149,48 @@ impl Report<'_> {
         format!("{}, {} damaged{unended}", lines(self.count.lines), grouped(self.count.damaged as u64))
     }
 
+    fn found(&mut self, found: &Found) -> Result<(), Fault> {
+        match found {
+            Found::All(listed) | Found::Picks { picks: listed, .. } => self.list(listed),
+            Found::Why { tree, .. } => tree.iter().try_for_each(|tree| self.tree(tree)),
+        }
+    }
+
     fn list(&mut self, listed: &[Stretch]) -> Result<(), Fault> {
         for &stretch in listed {
-            let ends = self.paint.paint(CYAN, &format!("{}..{}", stretch.first, stretch.last));
-            let damage = self.damage(stretch)?;
-            writeln!(self.out, "{ends} ({}{damage})", lines(stretch.lines()))?;
-            if self.form == Form::Show {
-                self.show(stretch)?;
-            }
+            let words = self.in_words(stretch)?;
+            writeln!(self.out, "{words}")?;
+            self.show(stretch)?;
         }
         Ok(())
+    }
+
+    /// The nodes of a tree, beside each its stretch, or of a leaf the line itself, or a dash where it took no part.
+    fn tree(&mut self, tree: &[Node]) -> Result<(), Fault> {
+        let label = |node: &Node| format!("{:indent$}{}", "", node.spelt, indent = 2 * node.depth);
+        let width = tree.iter().map(|node| label(node).len()).max().unwrap_or_default();
+        for node in tree {
+            let beside = match node.stretch {
+                Some(stretch) if node.leaf => self.line_in_words(stretch.first)?,
+                Some(stretch) => self.in_words(stretch)?,
+                None => "-".into(),
+            };
+            writeln!(self.out, "{:width$}  {beside}", label(node))?;
+        }
+        tree[0].stretch.map_or(Ok(()), |whole| self.show(whole))
+    }
+
+    fn in_words(&self, stretch: Stretch) -> Result<String, Fault> {
+        let ends = self.paint.paint(CYAN, &format!("{}..{}", stretch.first, stretch.last));
+        Ok(format!("{ends} ({}{})", lines(stretch.lines()), self.damage(stretch)?))
+    }
+
+    /// A line of the log after its number.
+    fn line_in_words(&self, number: u32) -> Result<String, Fault> {
+        match calls::lines_of(self.log, Stretch { first: number, last: number }) {
+            [] => Err(lacking()),
+            line => Ok(format!("{}  {}", self.paint.paint(CYAN, &number.to_string()), self.shown(line))),
+        }
     }
 
     /// How many lines of a stretch are damaged, where some are: `max` does not count them.
@@ -155,30 +199,43 @@ impl Report<'_> {
             return Ok(String::new());
         }
         match calls::count(calls::lines_of(self.log, stretch)) {
-            Ok(held) if held.lines != stretch.lines() => Err(Fault::Failed("internal error: a stretch lacks lines".into())),
+            Ok(held) if held.lines != stretch.lines() => Err(lacking()),
             Ok(held) if held.damaged == 0 => Ok(String::new()),
             Ok(held) => Ok(format!(", {} damaged", grouped(held.damaged as u64))),
             Err(_) => Err(Fault::Failed("internal error: the lines of a stretch are not counted".into())),
         }
     }
 
-    /// The lines of a stretch, numbered, damaged ones marked.
+    /// The lines of a stretch, numbered, where they are wanted.
     fn show(&mut self, stretch: Stretch) -> Result<(), Fault> {
+        if self.form != Form::Show {
+            return Ok(());
+        }
         let mut number = stretch.first;
         for line in calls::each_line(calls::lines_of(self.log, stretch)) {
-            let text = line.strip_suffix(b"\n").unwrap_or(line);
-            let mark = match (calls::sound(line), text.is_empty()) {
-                (true, _) => "",
-                (false, true) => "damaged, empty",
-                (false, false) => "damaged: ",
-            };
-            writeln!(self.out, "{number:8}  {}{}", self.paint.paint(YELLOW, mark), safe(text))?;
+            let shown = self.shown(line);
+            writeln!(self.out, "{number:8}  {shown}")?;
             number += 1;
         }
         if number == stretch.last + 1 {
             Ok(())
         } else {
-            Err(Fault::Failed("internal error: a stretch lacks lines".into()))
+            Err(lacking())
         }
     }
+
+    /// A line, given with its line feed if it has one, marked if it is damaged.
+    fn shown(&self, line: &[u8]) -> String {
+        let text = line.strip_suffix(b"\n").unwrap_or(line);
+        let mark = match (calls::sound(line), text.is_empty()) {
+            (true, _) => "",
+            (false, true) => "damaged, empty",
+            (false, false) => "damaged: ",
+        };
+        format!("{}{}", self.paint.paint(YELLOW, mark), safe(text))
+    }
+}
+
+fn lacking() -> Fault {
+    Fault::Failed("internal error: a stretch lacks lines".into())
 }

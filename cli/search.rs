@@ -2,12 +2,12 @@
 
 use crate::calls::{self, Count, Refusal, Unanswered};
 use crate::input::{read_log, read_patterns, Log, Source, Titled};
-use crate::options::{Form, Patterns, Search};
+use crate::options::{Form, Patterns, Search, Wanted};
 use crate::paint::Paint;
 use crate::progress::Progress;
-use crate::report::{refusal, refusal_pointed, warning, Found, Picked, Report};
+use crate::report::{refusal, refusal_pointed, warning, Found, Report};
 use crate::text::grouped;
-use crate::{say, sheet, tell, Fault, FAILED, FOUND, NOTHING};
+use crate::{say, sheet, tell, tree, Fault, FAILED, FOUND, NOTHING};
 use std::io::{self, IsTerminal, Write};
 
 pub fn run(search: &Search) -> Result<u8, Fault> {
@@ -47,14 +47,25 @@ fn refused(reason: Refusal, pattern: &[u8], log: &Log) -> Result<u8, Fault> {
     Ok(FAILED)
 }
 
-/// All stretches of a pattern in a log of so many lines, or so many picks of them.
-fn find(pattern: &[u8], log: &[u8], lines: usize, picks: Option<u32>) -> Result<Found, Unanswered> {
-    let Some(k) = picks else {
-        return Ok(Found { listed: calls::stretches(pattern, log, lines)?, picked: None });
-    };
-    let listed = calls::picks(pattern, log, lines, k)?;
-    let stretches = calls::stretches(pattern, log, lines)?.len();
-    Ok(Found { listed, picked: Some(Picked { k, stretches }) })
+/// What is wanted of a pattern's stretches in a log of so many lines.
+fn find(pattern: &[u8], log: &[u8], lines: usize, wanted: Wanted) -> Result<Found, Unanswered> {
+    Ok(match wanted {
+        Wanted::All => Found::All(calls::stretches(pattern, log, lines)?),
+        Wanted::Picks(k) => {
+            let picks = calls::picks(pattern, log, lines, k)?;
+            Found::Picks { k, picks, stretches: calls::stretches(pattern, log, lines)?.len() }
+        }
+        Wanted::Why(number) => {
+            let all = calls::stretches(pattern, log, lines)?;
+            let shown = calls::witness(pattern, log, lines, number)?;
+            let tree = match usize::try_from(number).ok().and_then(|number| all.get(number)) {
+                Some(&answer) => Some(tree::explained(pattern, answer, &shown)?),
+                None if shown.is_empty() => None,
+                None => return Err(Unanswered::Broken("nodes shown of no stretch")),
+            };
+            Found::Why { number, tree, stretches: all.len() }
+        }
+    })
 }
 
 fn status(found: usize) -> u8 {
@@ -72,25 +83,26 @@ fn warn(log: &[u8], count: &Count) {
 }
 
 /// A report over a log, after the warning of it if there is one.
-fn report(log: &[u8], count: Count, form: Form) -> Result<Report<'_>, Fault> {
+fn report<'a>(log: &'a [u8], count: Count, search: &Search) -> Result<Report<'a>, Fault> {
     warn(log, &count);
-    let out: Box<dyn Write> = if form == Form::Quiet { Box::new(io::sink()) } else { crate::output()? };
-    Ok(Report { log, count, form, paint: Paint::for_stream(&io::stdout()), out })
+    let out: Box<dyn Write> = if search.form == Form::Quiet { Box::new(io::sink()) } else { crate::output()? };
+    let counted = if matches!(search.wanted, Wanted::Why(_)) { "stretches and lines" } else { "lines" };
+    Ok(Report { log, count, counted, form: search.form, paint: Paint::for_stream(&io::stdout()), out })
 }
 
 fn one(pattern: &[u8], log: &Log, count: Count, search: &Search) -> Result<u8, Fault> {
-    let found = match judged(find(pattern, &log.bytes, count.lines, search.picks))? {
+    let found = match judged(find(pattern, &log.bytes, count.lines, search.wanted))? {
         Ok(found) => found,
         Err(reason) => return refused(reason, pattern, log),
     };
-    let mut report = report(&log.bytes, count, search.form)?;
+    let mut report = report(&log.bytes, count, search)?;
     report.answer(&found)?;
     report.out.flush()?;
-    Ok(status(found.listed.len()))
+    Ok(status(found.number()))
 }
 
 fn several(patterns: &[Titled], source: &Source, log: &Log, count: Count, search: &Search) -> Result<u8, Fault> {
-    let mut report = report(&log.bytes, count, search.form)?;
+    let mut report = report(&log.bytes, count, search)?;
     let all = grouped(patterns.len() as u64);
     let progress = Progress::start(!io::stdout().is_terminal(), move |done| format!("searching: {} of {all} patterns done", grouped(done)));
     let mut statuses = Vec::new();
@@ -101,10 +113,10 @@ fn several(patterns: &[Titled], source: &Source, log: &Log, count: Count, search
             writeln!(report.out)?;
         }
         report.title(titled)?;
-        statuses.push(match judged(find(&titled.pattern, &log.bytes, report.count.lines, search.picks))? {
+        statuses.push(match judged(find(&titled.pattern, &log.bytes, report.count.lines, search.wanted))? {
             Ok(found) => {
                 report.answer_titled(&found)?;
-                status(found.listed.len())
+                status(found.number())
             }
             Err(reason) => {
                 writeln!(report.out, "{}", refusal(reason, &titled.pattern, log))?;

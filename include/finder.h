@@ -13,16 +13,17 @@
    Cost: the time of a call over a log grows with the log's length and no faster. For an evening of 3,000 lines finder_fill takes tens of
    microseconds, with the worst patterns some hundreds; finder_count takes some 20, finder_lines up to some 35 for the last lines and
    less for earlier ones. finder_pick reads the log once, as finder_fill does, and searches it at most k times: 16 picks of such an evening
-   take some hundreds of microseconds, with the worst patterns some 10 milliseconds. */
+   take some hundreds of microseconds, with the worst patterns some 10 milliseconds. finder_witness costs what finder_fill costs up to the
+   answer of that number, and with some patterns as much again for each level of the pattern. */
 #ifndef FINDER_H
 #define FINDER_H
 
 #include <stddef.h>
 #include <stdint.h>
 
-#define FINDER_VERSION "1.3.0"
+#define FINDER_VERSION "1.4.0"
 #define FINDER_VERSION_MAJOR 1
-#define FINDER_VERSION_MINOR 3
+#define FINDER_VERSION_MINOR 4
 #define FINDER_VERSION_PATCH 0
 
 #ifdef __cplusplus
@@ -41,8 +42,8 @@ enum {
     FINDER_BOUND_MAX = 65535     /* k of max: sound lines in a log, lines over lists */
 };
 
-/* The stack that is enough for a call, in bytes: FINDER_STACK_FILL for finder_fill and finder_pick, FINDER_STACK_OTHERS for every other.
-   Measured, these two take some 275,000, whatever the log, finder_count 7,600, finder_lists_fill 2,600, finder_lines and
+/* The stack that is enough for a call, in bytes: FINDER_STACK_FILL for finder_fill, finder_pick and finder_witness, FINDER_STACK_OTHERS for
+   every other. Measured, these three take some 275,000, whatever the log, finder_count 7,600, finder_lists_fill 2,600, finder_lines and
    finder_lists_take less than 600; in a program's first call the dynamic linker takes up to 3,300 more. */
 enum { FINDER_STACK_FILL = 320 * 1024, FINDER_STACK_OTHERS = 16 * 1024 };
 
@@ -85,6 +86,17 @@ uint64_t finder_fill(const uint8_t *pattern, size_t pattern_len, const uint8_t *
 uint64_t finder_pick(const uint8_t *pattern, size_t pattern_len, const uint8_t *log, size_t log_len, uint32_t k,
                      uint32_t *cells, size_t cell_count);
 
+/* The nodes of a pattern that took part in its answer number `number` (the first is 0) in a log, each with its stretch. Nodes count from 0 as
+   the pattern is read: a node before its operands, and these in their order. Writes node, start line and end line for each into cells, in
+   node order, as many as whole triples fit; later cells keep their contents. Three cells for each node of the pattern are enough, so
+   3 * FINDER_NODES_MAX for any. The first is node 0 with the answer itself; an operator's stretch is exactly the span of those of its operands that
+   took part. docs/FORMATS.md says which do. A number beyond the last answer writes nothing and is not refused; with three cells or more,
+   0 triples of an accepted call say that there is no such answer.
+
+   Result as for finder_fill, the triples as the stretches written; bit 8 is always 0. */
+uint64_t finder_witness(const uint8_t *pattern, size_t pattern_len, const uint8_t *log, size_t log_len, uint64_t number,
+                        uint32_t *cells, size_t cell_count);
+
 /* How many lines a log has, and how many of them are damaged.
 
    Result: bits 0-7 the refusal (only FINDER_LONG_LOG), bits 16-31 the damaged lines, bits 32-63 the lines. */
@@ -112,7 +124,7 @@ uint64_t finder_lists_take(uint32_t op, const uint32_t *items, size_t item_count
 /* The refusal of every call but finder_lines. */
 static inline unsigned finder_refusal(uint64_t result) { return (unsigned)(result & 0xff); }
 
-/* The parts of a filling's result, and of finder_pick's, which never has more. */
+/* The parts of a filling's result, and of finder_pick's and finder_witness's, which never have more. */
 static inline int finder_more(uint64_t result) { return (int)(result >> 8 & 1); }
 static inline unsigned finder_place(uint64_t result) { return (unsigned)(result >> 16 & 0xffff); }
 static inline uint32_t finder_written(uint64_t result) { return (uint32_t)(result >> 32); }
