@@ -16,7 +16,8 @@ use Rattle.pattern.specs.declared.State.{State}
 use Rattle.pattern.specs.declared.State.the-variants.{Letters, Field, Digits}
 use Rattle.pattern.specs.declared.Step.{Step}
 use Rattle.pattern.specs.declared.Step.the-variants.{Dead, Within, Closed}
-use Rattle.pattern.specs.Automaton.{firstField, secondField, thirdField, digit, number, shut, wordEnd, numberEnd, step, Scan, Stop, Whole, later, after, last, finish, go, scan}
+use Rattle.digits.specs.Chart.{digit}
+use Rattle.pattern.specs.Automaton.{firstField, secondField, thirdField, number, shut, wordEnd, numberEnd, step, Scan, Stop, Whole, later, after, last, finish, go, scan}
 use Rattle.basics.proofs.Basics.{true-and, le-or-lt}
 use Rattle.basics.proofs.Decimals.{digits-small, digits-large}
 use Rattle.pattern.proofs.Numbers.{Starts, starts-live}

@@ -4,16 +4,18 @@ use Prim.Native.Nat.{ℕ, zero, suc, _+_, _≤_, _<_}
 use mathlib.Core.Path.{_≡_, refl, sym, ap, subst, _∙_}
 use mathlib.Core.Bool.{Bool, true, false, not, cond, _&&_}
 use mathlib.Core.List.{List, [], _∷_, _++_}
-use lib.Dec.{leb, eqb}
+use lib.Dec.{leb, ltb}
 use lib.ListN.{length, getD, take, drop}
 use lib.Seq.{drop-cons}
-use borrow.Author.Tests.{leb-true, eqb-false, not-true}
+use borrow.Author.Tests.{leb-true, ltb-true, not-true}
 use native.Mathlib.Numerals.{add-one}
 use native.Mathlib.Omega.{arith}
 use Rattle.pattern.specs.Kinds.{Symbol, Ev, Fr, Or, And, Row, Then, Less, Max, kindOf, numbers, firstOf, secondOf, thirdOf, Range, Operands, Fixed, Counted, Kind, from, kinds, noKind, find, kindIn, rowOf, kindBy, fieldCount, rangeAt, low, high, operandCount, arity, symbol, rank, AllInRange, Ranged}
 use Rattle.pattern.specs.declared.State.the-variants.{Letters}
 use Rattle.pattern.specs.Automaton.{next, step, wordEnd, Scan, later, go, scan}
 use Rattle.basics.proofs.Basics.{cases, and-true}
+use Rattle.basics.proofs.Decimals.{Plain}
+use Rattle.digits.specs.Chart.{digit}
 
 -- ── A search ──
 
@@ -70,21 +72,59 @@ every-at f d (x ∷ xs) h e (suc i) = every-at f d xs (and-true (f x) (every f x
 abbrev sound-range : Range → Bool
 sound-range r = leb (r .least) 10 && (leb (r .least) (r .most) && leb (r .most) 65535)
 
+-- as facts
+in-bounds : (r : Range) → sound-range r ≡ true → (r .least ≤ 10) × (r .least ≤ r .most) × (r .most ≤ 65535)
+in-bounds r e =
+    let p = and-true (leb (r .least) 10) (leb (r .least) (r .most) && leb (r .most) 65535) e in
+    let q = and-true (leb (r .least) (r .most)) (leb (r .most) 65535) (p .1) in
+    (leb-true (r .least) 10 (p .0), leb-true (r .least) (r .most) (q .0), leb-true (r .most) 65535 (q .1))
+
 -- a symbol has 31 operands at most
 abbrev few-operands : Operands → List Range → Bool
 few-operands (Fixed n) rs = leb n 31
 few-operands Counted rs = leb (rangeAt rs 0 .most) 31
-
--- no letter is a comma
-abbrev plain : List ℕ → Bool
-plain w = every (λ x. not (eqb x 44)) w
 
 -- each test is passed in each row, and where there is none
 tested : (f : Kind → Bool) → every f kinds ≡ true → f noKind ≡ true → (r : ℕ) → f (kindIn r) ≡ true
 unfolding kindIn
 tested f h e r = every-at f noKind kinds h e r
 
+-- every letter comes after the comma
+letters : (r : ℕ) → Plain (kindIn r .word)
+letters r = go (kindIn r .word) (tested (λ x. every (λ b. ltb 44 b) (x .word)) refl refl r)
+  where
+    go : (w : List ℕ) → every (λ b. ltb 44 b) w ≡ true → Plain w
+    go [] h = tt
+    go (b ∷ w) h = let t = and-true (ltb 44 b) (every (λ b. ltb 44 b) w) h in (ltb-true 44 b (t .0), go w (t .1))
+
+-- numbers up to 65,535
+abbrev pub Small : List ℕ → Type 0
+Small [] = Unit {0}
+Small (n ∷ ns) = (n ≤ 65535) × Small ns
+
 module _ (k : ℕ) where
+  -- a word has no comma, and starts with no digit
+  pub word-plain : Plain (kindBy k .word)
+  unfolding kindBy
+  word-plain = letters (rowOf k)
+
+  pub word-first : digit (getD (kindBy k .word ++ (44 ∷ [])) 0 0) ≡ false
+  unfolding kindBy
+  word-first = not-true (digit (getD (kindIn (rowOf k) .word ++ (44 ∷ [])) 0 0)) (tested (λ x. not (digit (getD (x .word ++ (44 ∷ [])) 0 0))) refl refl (rowOf k))
+
+  -- numbers in range are small
+  pub ranged-small : (ns : List ℕ) → AllInRange (kindBy k .ranges) ns → Small ns
+  unfolding kindBy
+  ranged-small ns r = go (kindIn (rowOf k) .ranges) ns (tested (λ x. every sound-range (x .ranges)) refl refl (rowOf k)) r
+    where
+      go : (rs : List Range) (ns : List ℕ) → every sound-range rs ≡ true → AllInRange rs ns → Small ns
+      go [] [] h r = tt
+      go [] (n ∷ ns) h r = absurd r
+      go (x ∷ rs) [] h r = tt
+      go (x ∷ rs) (n ∷ ns) h r =
+          let t = and-true (sound-range x) (every sound-range rs) h in
+          (omega (arith, r .0, in-bounds x (t .0)), go rs ns (t .1) (r .1))
+
   -- three numbers at most
   pub few-fields : fieldCount k ≤ 3
   unfolding kindBy
@@ -93,10 +133,7 @@ module _ (k : ℕ) where
   pub range-sound : (j : ℕ) → (low k j ≤ 10) × (low k j ≤ high k j) × (high k j ≤ 65535)
   unfolding kindBy
   range-sound j =
-      let e : sound-range (rangeAt (kindBy k .ranges) j) ≡ true = every-at sound-range (from 0 0) (kindBy k .ranges) (tested (λ x. every sound-range (x .ranges)) refl refl (rowOf k)) refl j in
-      let p = and-true (leb (low k j) 10) (leb (low k j) (high k j) && leb (high k j) 65535) e in
-      let q = and-true (leb (low k j) (high k j)) (leb (high k j) 65535) (p .1) in
-      (leb-true (low k j) 10 (p .0), leb-true (low k j) (high k j) (q .0), leb-true (high k j) 65535 (q .1))
+      in-bounds (rangeAt (kindBy k .ranges) j) (every-at sound-range (from 0 0) (kindBy k .ranges) (tested (λ x. every sound-range (x .ranges)) refl refl (rowOf k)) refl j)
 
   few-by : few-operands (kindBy k .operands) (kindBy k .ranges) ≡ true
   unfolding kindBy
@@ -127,12 +164,12 @@ word-short r = leb-true (length (kindIn r .word)) 4 (tested (λ x. leb (length (
 
 -- no letter of a word is a comma
 pub letter-plain : (r i : ℕ) → i < length (kindIn r .word) → getD (kindIn r .word) i 44 ≡ 44 → ⊥
-letter-plain r = go (kindIn r .word) (tested (λ x. plain (x .word)) refl refl r)
+letter-plain r = go (kindIn r .word) (letters r)
   where
-    go : (w : List ℕ) → plain w ≡ true → (i : ℕ) → i < length w → getD w i 44 ≡ 44 → ⊥
+    go : (w : List ℕ) → Plain w → (i : ℕ) → i < length w → getD w i 44 ≡ 44 → ⊥
     go [] p i h e = absurd (omega arith)
-    go (x ∷ w) p zero h e = eqb-false x 44 (not-true (eqb x 44) (and-true (not (eqb x 44)) (plain w) p .0)) e
-    go (x ∷ w) p (suc i) h e = go w (and-true (not (eqb x 44)) (plain w) p .1) i (omega arith) e
+    go (x ∷ w) p zero h e = omega (arith, p .0)
+    go (x ∷ w) p (suc i) h e = go w (p .1) i (omega arith) e
 
 -- ── A row and its symbols ──
 

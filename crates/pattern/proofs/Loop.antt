@@ -5,8 +5,8 @@ use mathlib.Core.Path.{_≡_, refl, sym, ap, ap₂, subst, _∙_}
 use mathlib.Core.Bool.{Bool, true, false, cond}
 use mathlib.Core.List.{List, [], _∷_, _++_, map, append-assoc}
 use lib.Dec.{leb, ltb, eqb}
-use lib.ListN.{length, getD, drop, set, replicate, length-append, drop-of-length-le}
-use lib.Seq.{drop-cons}
+use lib.ListN.{length, getD, take, drop, set, replicate, length-append, length-drop, drop-of-length-le}
+use lib.Seq.{drop-cons, take-suc, getD-drop}
 use borrow.Author.Tests.{leb-true, ltb-false, lt-ltb}
 use native.Mathlib.Numerals.{add-one}
 use native.Mathlib.Omega.{arith}
@@ -18,7 +18,7 @@ use Rattle.pattern.specs.declared.Step.{Step}
 use Rattle.pattern.specs.declared.Step.the-variants.{Dead, Within, Closed}
 use Rattle.pattern.specs.Automaton.{firstField, secondField, thirdField, step, Scan, Stop, Whole, later, after, last, finish, go, scan}
 use Rattle.pattern.specs.Rows.{padded}
-use Rattle.pattern.specs.inner.Scanner.{Bounded, final, endOf, putAt, Columns, Tells}
+use Rattle.pattern.specs.inner.Scanner.{Bounded, Written, Piece, startAfter, final, endOf, putAt, Columns, Tells}
 use Rattle.basics.proofs.Basics.{cases}
 use Rattle.pattern.proofs.KindLaws.{few-fields, range-sound, word-short, rank-small}
 use Rattle.pattern.proofs.Fields.{Named, made-last, first-small}
@@ -143,9 +143,16 @@ module _ (text ks xs ys zs : List ℕ) (count : ℕ) (s : State) (i b : ℕ) (v 
   pub turn-dead : (t : Step) → t ≡ step s b → t ≡ Dead → scan text (Letters 0 0 1) ≡ Stop i
   turn-dead t q d = on-step t q ∙ (ap (λ (x : Step). resume i (v .done) (go (scan (drop (i + 1) text)) x)) d ∙ ap Stop (omega arith))
 
+  -- what the step did
+  pub went : (t : Step) (s′ : State) → t ≡ step s b → t ≡ Within s′ → Went s b s′
+  went t s′ q d = subst (After s b) d (after-step t q)
+
+  pub closed : (t : Step) (k a c d : ℕ) (s′ : State) → t ≡ step s b → t ≡ Closed k a c d s′ → Shut s b (symbol k a c d) s′
+  closed t k a c d s′ q z = let g : Shut s b (symbol k a c d) s′ × Named k a c d = subst (After s b) z (after-step t q) in g .0
+
   pub turn-within : (t : Step) (s′ : State) → t ≡ step s b → t ≡ Within s′ → Scanning text ks xs ys zs count s′ (i + 1)
   turn-within t s′ q d =
-      let g : Went s b s′ = subst (After s b) d (after-step t q) in
+      let g = went t s′ q d in
       record {
         done = v .done;
         within = omega arith;
@@ -170,6 +177,41 @@ module _ (text ks xs ys zs : List ℕ) (count : ℕ) (s : State) (i b : ℕ) (v 
         counted = omega (arith, v .counted, length-append (v .done) (symbol k a c d ∷ []));
         columns = push (v .done) ks xs ys zs count k a c d (v .counted) (g .1) (v .columns);
       }
+
+-- ── The present word or number ──
+
+-- it starts at a place, and what the state has read of it stands there
+pub record Begun (text : List ℕ) (from i : ℕ) (s : State) : Type 0 where
+  pub place : from ≤ i
+  pub written : Written s (take (i - from) (drop from text))
+
+-- past a comma
+pub begun-past : (text : List ℕ) (i : ℕ) (s : State) → Written s [] → Begun text i i s
+begun-past text i s w = let z : i - i ≡ 0 = omega arith in record { place = omega arith; written = subst (Written s) (sym (ap (λ (n : ℕ). take n (drop i text)) z)) w }
+
+module _ {text : List ℕ} {from i : ℕ} {s : State} (g : Begun text from i s) (l : i < length text) {b : ℕ} (e : b ≡ getD text i 0) where
+  -- a byte more stands there
+  one-more : take (i + 1 - from) (drop from text) ≡ take (i - from) (drop from text) ++ (b ∷ [])
+  one-more =
+      let n : i + 1 - from ≡ suc (i - from) = omega (arith, g .place) in
+      let p : from + (i - from) ≡ i = omega (arith, g .place) in
+      let h : i - from < length (drop from text) = omega (arith, g .place, length-drop from text) in
+      ap (λ (n : ℕ). take n (drop from text)) n ∙ take-suc (drop from text) (i - from) 0 h
+      ∙ ap (λ (x : ℕ). take (i - from) (drop from text) ++ (x ∷ [])) (getD-drop from text (i - from) 0 ∙ ap (λ (n : ℕ). getD text n 0) p ∙ sym e)
+
+  -- and with the byte
+  pub begun-piece : Piece s b (take (i + 1 - from) (drop from text))
+  begun-piece = record { before = take (i - from) (drop from text); written = g .written; whole = one-more }
+
+  -- a byte further
+  pub begun-on : (s′ : State) → Went s b s′ → (n : ℕ) → n ≡ startAfter from i b → Begun text n (i + 1) s′
+  begun-on s′ w n q = subst (λ (n : ℕ). Begun text n (i + 1) s′) (sym q) (cases (eqb b 44) (λ c. Written s′ (cond c [] (take (i - from) (drop from text) ++ (b ∷ []))) → Begun text (cond c (i + 1) from) (i + 1) s′) (λ _. past) (λ _. on) (w .written (take (i - from) (drop from text)) (g .written)))
+    where
+      past : Written s′ [] → Begun text (i + 1) (i + 1) s′
+      past k = begun-past text (i + 1) s′ k
+
+      on : Written s′ (take (i - from) (drop from text) ++ (b ∷ [])) → Begun text from (i + 1) s′
+      on k = record { place = omega (arith, g .place); written = subst (Written s′) (sym one-more) k }
 
 -- ── The end of the text ──
 

@@ -2,11 +2,11 @@
 -- Assumes nothing.
 use Prim.Native.Nat.{ℕ, zero, suc, _+_, _-_, _*_, _≤_, _<_}
 use mathlib.Core.Path.{_≡_, refl, sym, ap, _∙_}
-use mathlib.Core.Bool.{true, not, cond, _&&_}
+use mathlib.Core.Bool.{Bool, not, cond, _&&_}
 use mathlib.Core.List.{List, [], _∷_, _++_, append-assoc}
 use lib.Dec.{leb, ltb, eqb}
 use lib.ListN.{length}
-use borrow.Author.Tests.{eqb-true, eqb-false, leb-true, ltb-true, ltb-false, not-true}
+use borrow.Author.Tests.{eq-eqb, ne-eqb, eqb-true, eqb-false, leb-true, ltb-true, ltb-false, not-true}
 use native.Mathlib.Omega.{arith}
 use Rattle.basics.specs.Decimal.{decimal}
 use Rattle.pattern.specs.Kinds.{kinds, kindIn, kindBy, rowOf, Symbol, Ev, rank, Ranged, InRange, symbol, fieldCount, low, high, arity}
@@ -15,10 +15,12 @@ use Rattle.pattern.specs.declared.State.{State}
 use Rattle.pattern.specs.declared.State.the-variants.{Letters, Field, Digits}
 use Rattle.pattern.specs.declared.Step.{Step}
 use Rattle.pattern.specs.declared.Step.the-variants.{Dead, Within, Closed}
-use Rattle.pattern.specs.Automaton.{firstField, secondField, thirdField, next, live, digit, number, shut, wordEnd, numberEnd, letter, step}
+use Rattle.digits.specs.Chart.{digit}
+use Rattle.pattern.specs.Automaton.{firstField, secondField, thirdField, next, live, number, shut, wordEnd, numberEnd, letter, step}
+use Rattle.pattern.specs.inner.Scanner.{Written, since}
 use Rattle.basics.proofs.Basics.{cases, and-true}
-use Rattle.basics.proofs.Decimals.{decimal-small, decimal-large}
-use Rattle.pattern.proofs.Numbers.{Starts, live-starts, starts-completed}
+use Rattle.digits.proofs.ChartLaws.{digit-true}
+use Rattle.pattern.proofs.Numbers.{first-digit, digit-more, Starts, live-starts, starts-completed}
 use Rattle.pattern.proofs.KindLaws.{range-sound, wordOf, Sound, fair}
 use Rattle.pattern.proofs.Words.{path, onward, path-onward, letter-grown, word-ended}
 use Rattle.pattern.proofs.Fields.{rank-arity, Named, Made, bare, bare-spelt, lead, spelt-last, lead-next, Earlier, made-last, earlier-next, goes, word-goes}
@@ -78,12 +80,14 @@ pub record Went (s : State) (b : ℕ) (s′ : State) : Type 0 where
   pub held : Held s′
   pub pends : pending s′ ≡ pending s ++ (b ∷ [])
   pub needs : need s′ ≡ need s
+  pub written : (t : List ℕ) → Written s t → Written s′ (since b t)
 
 -- a byte that ends the symbol h
 pub record Shut (s : State) (b : ℕ) (h : Symbol) (s′ : State) : Type 0 where
   pub held : Held s′
   pub comma : b ≡ 44
   pub pends : pending s′ ≡ []
+  pub written : Written s′ []
   pub needs : need s′ ≡ need s + rank h - 1
   pub spelt : pending s ≡ spellSymbol h
   pub ranged : Ranged h
@@ -94,13 +98,20 @@ After s b Dead = Unit {0}
 After s b (Within s′) = Went s b s′
 After s b (Closed k a c d s′) = Shut s b (symbol k a c d) s′ × Named k a c d
 
+-- past a comma nothing is written yet, and a digit is one more
+since-comma : (b : ℕ) (t : List ℕ) → b ≡ 44 → since b t ≡ []
+since-comma b t e = ap (λ (c : Bool). cond c [] (t ++ (b ∷ []))) (eq-eqb b 44 e)
+
+since-digit : (b : ℕ) (t : List ℕ) → 48 ≤ b → since b t ≡ t ++ (b ∷ [])
+since-digit b t h = ap (λ (c : Bool). cond c [] (t ++ (b ∷ []))) (ne-eqb b 44 (λ e. omega arith))
+
 -- a comma after a whole symbol
 shut-after : (s : State) (b k a c d n : ℕ) → b ≡ 44 → Sound k → 1 ≤ n → n ≡ need s → pending s ≡ spellSymbol (symbol k a c d) → Made k a c d → After s b (shut k a c d n)
 unfolding path
 shut-after s b k a c d n e h p q sp m =
     cases (eqb (n + arity k a) 1) (λ t. After s b (cond t Dead (Closed k a c d (Letters 0 0 (n + arity k a - 1))))) (λ t. tt)
     (λ t. let ne : n + arity k a ≡ 1 → ⊥ = eqb-false (n + arity k a) 1 t in
-    (record { held = (omega arith, omega arith, omega arith); comma = e; pends = refl; needs = omega (arith, rank-arity k h a c d (m .named)); spelt = sp; ranged = m .ranged }, m .named))
+    (record { held = (omega arith, omega arith, omega arith); comma = e; pends = refl; written = tt; needs = omega (arith, rank-arity k h a c d (m .named)); spelt = sp; ranged = m .ranged }, m .named))
 
 -- a comma after a word
 word-after : (r m n b k : ℕ) → Sound k → path r m ≡ wordOf k → 1 ≤ n → b ≡ 44 → After (Letters r m n) b (wordEnd k n)
@@ -113,6 +124,7 @@ word-after r m n b k s w h e =
       held = (record { sound = s; field = omega arith; earlier = λ i l. absurd (omega arith) }, h);
       pends = ap (λ (x : List ℕ). x ++ (44 ∷ [])) (sym w) ∙ ap (λ (x : ℕ). path r m ++ (x ∷ [])) (sym e);
       needs = refl;
+      written = λ t _. since-comma b t e;
     })
 
 -- a letter, or the comma
@@ -123,12 +135,8 @@ letter-after r m n b h =
     cases (eqb b 44) (λ d. After (Letters r m n) b (cond d (wordEnd (kindIn (next r m b) .number) n) (Within (Letters (next r m b) (m + 1) n))))
     (λ d. let e = eqb-true b 44 d in
     word-after r m n b (kindIn (next r m b) .number) (fair (next r m b) l .sound) (word-ended r m b (h .1) l e) (h .2) e)
-    (λ d. let g = letter-grown r m b (h .1) l (eqb-false b 44 d) in record { held = (l, g .short, h .2); pends = g .grown; needs = refl }))
+    (λ d. let g = letter-grown r m b (h .1) l (eqb-false b 44 d) in record { held = (l, g .short, h .2); pends = g .grown; needs = refl; written = λ _ _. tt }))
     (λ c. tt)
-
--- a digit is from 48 to 57
-digit-true : (b : ℕ) → digit b ≡ true → (48 ≤ b) × (b ≤ 57)
-digit-true b h = let p = and-true (leb 48 b) (leb b 57) h in (leb-true 48 b (p .0), leb-true b 57 (p .1))
 
 -- the first digit of a number
 field-after : (k j a c n b : ℕ) → Held (Field k j a c n) → After (Field k j a c n) b (cond (digit b) (number k j a c (b - 48) n) Dead)
@@ -138,8 +146,9 @@ field-after k j a c n b h =
     cases (live (low k j) (high k j) (b - 48)) (λ l. After (Field k j a c n) b (cond l (Within (Digits k j a c (b - 48) n)) Dead))
     (λ l. record {
       held = (h .0, h .1, live-starts (low k j) (high k j) (b - 48) l);
-      pends = ap (λ (x : List ℕ). lead k j a c ++ x) (decimal-small (b - 48) (omega arith) ∙ ap (λ (x : ℕ). x ∷ []) (omega arith));
+      pends = ap (λ (x : List ℕ). lead k j a c ++ x) (first-digit b (d .0) (d .1));
       needs = refl;
+      written = λ t w. since-digit b t (d .0) ∙ ap (λ (x : List ℕ). x ++ (b ∷ [])) w ∙ sym (first-digit b (d .0) (d .1));
     }) (λ l. tt)) (λ t. tt)
 
 -- a further digit
@@ -152,8 +161,9 @@ more-after k j a c v n b h =
     cases (live (low k j) (high k j) (10 * v + (b - 48))) (λ l. After (Digits k j a c v n) b (cond l (Within (Digits k j a c (10 * v + (b - 48)) n)) Dead))
     (λ l. record {
       held = (h .0, h .1, live-starts (low k j) (high k j) (10 * v + (b - 48)) l);
-      pends = ap (λ (x : List ℕ). lead k j a c ++ x) (decimal-large v (b - 48) (omega arith) (omega arith) ∙ ap (λ (x : ℕ). decimal v ++ (x ∷ [])) (omega arith)) ∙ sym (append-assoc (lead k j a c) (decimal v) (b ∷ []));
+      pends = ap (λ (x : List ℕ). lead k j a c ++ x) (digit-more v b (omega arith) (d .0) (d .1)) ∙ sym (append-assoc (lead k j a c) (decimal v) (b ∷ []));
       needs = refl;
+      written = λ t w. since-digit b t (d .0) ∙ ap (λ (x : List ℕ). x ++ (b ∷ [])) w ∙ sym (digit-more v b (omega arith) (d .0) (d .1));
     }) (λ l. tt)) (λ t. tt)
 
 -- a comma after a number
@@ -168,6 +178,7 @@ end-after k j a c v n b h e =
       held = (record { sound = f .sound; field = l; earlier = earlier-next k (f .sound) a c v j l (f .earlier) r }, h .1);
       pends = lead-next k (f .sound) a c v j l ∙ ap (λ (x : ℕ). (lead k j a c ++ decimal v) ++ (x ∷ [])) (sym e);
       needs = refl;
+      written = λ t _. since-comma b t e;
     })
     (λ d. let l : fieldCount k ≡ j + 1 = omega (arith, ltb-false (j + 1) (fieldCount k) d, f .field) in
     shut-after (Digits k j a c v n) b k (firstField j a v) (secondField j c v) (thirdField j v) n e (f .sound) (h .1) refl (spelt-last k (f .sound) a c v j l) (made-last k (f .sound) a c v j l (f .earlier) r)))

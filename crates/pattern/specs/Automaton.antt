@@ -6,6 +6,7 @@ use mathlib.Core.Bool.{Bool, true, not, cond, _&&_, _||_}
 use mathlib.Core.List.{List, [], _∷_}
 use lib.Dec.{leb, ltb, eqb}
 use lib.ListN.{length, getD}
+use Rattle.digits.specs.Chart.{digit}
 use Rattle.pattern.specs.Kinds.{Symbol, Kind, kinds, find, kindIn, fieldCount, low, high, arity, symbol}
 use Rattle.pattern.specs.declared.State.{State}
 use Rattle.pattern.specs.declared.State.the-variants.{Letters, Field, Digits}
@@ -36,10 +37,6 @@ next r m b = find (continues (kindIn r .word) m b) kinds
 -- digits of value v are the start of a number from lo to hi (lo at most 10)
 abbrev pub live : ℕ → ℕ → ℕ → Bool
 live lo hi v = leb v hi && (leb lo v || (leb 1 v && leb (10 * v) hi))
-
--- the byte is a digit
-abbrev pub digit : ℕ → Bool
-digit b = leb 48 b && leb b 57
 
 -- ── Steps ──
 

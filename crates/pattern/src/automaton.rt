@@ -1,8 +1,9 @@
 // The automaton: what a byte, and the end of the text, do to a state.
 ghost use mathlib.Core.Path.{_≡_};
 ghost use Prim.Native.Nat.{_≤_};
+ghost use Rattle.digits.specs.Chart.{chart};
 ghost use Rattle.pattern.specs.Automaton.{number, shut, wordEnd, letter, firstField, numberEnd, step};
-ghost use Rattle.pattern.specs.inner.Scanner.{Follow, Bounded, final, endOf};
+ghost use Rattle.pattern.specs.inner.Scanner.{Follow, Bounded, Piece, final, endOf};
 use super::State;
 use super::Step;
 use super::Values;
@@ -13,6 +14,7 @@ use super::alphabet::kind_in;
 use super::alphabet::live;
 use super::alphabet::low;
 use super::alphabet::next;
+use digits::Chart;
 
 // Digits of a number, if they start one of the field.
 fn number(kind: usize, field: usize, first: usize, second: usize, value: usize, need: usize) -> Step
@@ -143,9 +145,10 @@ fn number_end(
     shut(kind, t.first, t.second, t.third, need)
 }
 
-// What a byte does to a state.
-pub(crate) fn advance(s: State, b: usize) -> Step
-    requires { ⌜ Bounded 1000000 s × (b ≤ 255) ⌝ }
+// What a byte does to a state. The piece is the text from the start of the present word or number through the byte; the value of digits is the sum of
+// their entries.
+pub(crate) fn advance(places: &Chart, piece: &[u8], s: State, b: usize) -> Step
+    requires { ⌜ (now places ≡ chart) × Bounded 1000000 s × (b ≤ 255) × Piece s b (now piece) ⌝ }
     ensures { λ r. ⌜ r ≡ step s b ⌝ }
 {
     match s {
@@ -163,7 +166,7 @@ pub(crate) fn advance(s: State, b: usize) -> Step
             if 57 < b {
                 return Step::Dead;
             }
-            number(kind, field, first, second, b - 48, need)
+            number(kind, field, first, second, digits::sum(places, piece), need)
         }
         State::Digits {
             kind,
@@ -185,7 +188,11 @@ pub(crate) fn advance(s: State, b: usize) -> Step
             if value == 0 {
                 return Step::Dead;
             }
-            number(kind, field, first, second, 10 * value + (b - 48), need)
+            // no number has a sixth digit, nor the chart an entry for it
+            if 5 < piece.len() {
+                return Step::Dead;
+            }
+            number(kind, field, first, second, digits::sum(places, piece), need)
         }
     }
 }

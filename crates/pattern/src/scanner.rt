@@ -4,7 +4,7 @@ ghost use mathlib.Core.Bool.{false};
 ghost use Prim.Native.Nat.{_≤_};
 ghost use lib.ListN.{length};
 ghost use Rattle.pattern.specs.Automaton.{scan};
-ghost use Rattle.pattern.specs.inner.Scanner.{Tells, putAt};
+ghost use Rattle.pattern.specs.inner.Scanner.{Tells, putAt, startAfter};
 use super::Scanned;
 use super::State;
 use super::Step;
@@ -41,6 +41,14 @@ fn put(a: &mut [usize; NODES], i: usize, v: usize)
     }
 }
 
+// Where the word or number of the byte after byte i, which is b, starts: past a comma, else where the present one does.
+fn start_after(from: usize, i: usize, b: usize) -> usize
+    requires { ⌜ i ≤ 1024 ⌝ }
+    ensures { λ r. ⌜ r ≡ startAfter from i b ⌝ }
+{
+    if b == 44 { i + 1 } else { from }
+}
+
 // The symbols of a text, or the place where it stops.
 pub(crate) fn scan(text: &[u8]) -> Scanned
     requires { ⌜ length (now text) ≤ 1024 ⌝ }
@@ -56,15 +64,20 @@ pub(crate) fn scan(text: &[u8]) -> Scanned
         read: 0,
         need: 1,
     };
+    // the chart is copied here, once for a text
+    let places = digits::chart();
+    let mut from: usize = 0;
     let mut i = 0;
     while i < text.len() {
         let b = wide(text[i]);
-        match advance(s, b) {
+        let end = i + 1;
+        match advance(&places, &text[from..end], s, b) {
             Step::Dead => {
                 return stopped(i);
             }
             Step::Within(t) => {
                 s = t;
+                from = start_after(from, i, b);
                 i += 1;
             }
             Step::Closed {
@@ -80,6 +93,7 @@ pub(crate) fn scan(text: &[u8]) -> Scanned
                 put(&mut third, count, d);
                 count += 1;
                 s = t;
+                from = end;
                 i += 1;
             }
         }

@@ -6,5 +6,6 @@ pub mod RowLaws
 pub mod LineLaws
 pub mod SpellingLaws
 pub mod RecordLines
+pub mod ValueLaws
 pub mod RangeLaws
 pub mod Walk

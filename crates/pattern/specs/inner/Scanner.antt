@@ -3,9 +3,10 @@
 use Prim.Native.Nat.{ℕ, _+_, _≤_, _<_}
 use mathlib.Core.Path.{_≡_}
 use mathlib.Core.Bool.{true, false, cond}
-use mathlib.Core.List.{List, map}
+use mathlib.Core.List.{List, [], _∷_, _++_, map}
 use lib.Dec.{leb, ltb, eqb}
 use lib.ListN.{length, set}
+use Rattle.basics.specs.Decimal.{decimal}
 use Rattle.pattern.specs.Kinds.{Symbol, kinds, kindOf, firstOf, secondOf, thirdOf, fieldCount, low, arity}
 use Rattle.pattern.specs.Rows.{padded}
 use Rattle.pattern.specs.Automaton.{firstField, secondField, thirdField, Scan, Stop, Whole}
@@ -27,6 +28,26 @@ abbrev pub Bounded : ℕ → State → Type 0
 Bounded m (Letters r i n) = (1 ≤ n) × (n ≤ m) × (i ≤ m) × (r < length kinds)
 Bounded m (Field k j a b n) = (1 ≤ n) × (n ≤ m) × (j ≤ 2)
 Bounded m (Digits k j a b v n) = (1 ≤ n) × (n ≤ m) × (v ≤ 65535) × (firstField j a v ≤ 65535) × (j ≤ 2)
+
+-- what a state has read of its word or number, from its start on: the digits of a number are its decimal
+abbrev pub Written : State → List ℕ → Type 0
+Written (Letters r m n) t = Unit {0}
+Written (Field k j a b n) t = t ≡ []
+Written (Digits k j a b v n) t = t ≡ decimal v
+
+-- and then the byte b
+pub record Piece (s : State) (b : ℕ) (piece : List ℕ) : Type 0 where
+  pub before : List ℕ
+  pub written : Written s before
+  pub whole : piece ≡ before ++ (b ∷ [])
+
+-- after the byte b: nothing, where it is a comma
+abbrev pub since : ℕ → List ℕ → List ℕ
+since b t = cond (eqb b 44) [] (t ++ (b ∷ []))
+
+-- where the word or number of the byte after byte i, which is b, starts: past a comma, else where the present one does
+abbrev pub startAfter : ℕ → ℕ → ℕ → ℕ
+startAfter from i b = cond (eqb b 44) (i + 1) from
 
 -- a symbol that ends the text
 abbrev pub final : ℕ → ℕ → ℕ → ℕ → ℕ → Step
