@@ -84,6 +84,12 @@ fn row(name: &str, pattern: &str, log: &[u8], pairs: usize) {
     over_logs(name, pattern, &[log.to_vec()], pairs);
 }
 
+/// 3,000 lines in which every number has as many digits as it can have.
+fn long_numbers(rng: &mut Rng) -> Vec<u8> {
+    let line = |_| format!("2,{},{},{},10,10\n", rng.range(10, 99), rng.range(100, 255), rng.range(100, 300));
+    (0..3_000).map(line).collect::<String>().into_bytes()
+}
+
 /// One row: so many picks of a pattern's answers in a log.
 fn pick_row(name: &str, pattern: &str, log: &[u8], k: u32) {
     let (pattern, mut of_finder, mut of_plain) = (pattern.as_bytes(), vec![0; 2 * k as usize], vec![0; 2 * k as usize]);
@@ -239,6 +245,9 @@ fn main() {
         (0..10).fold("and,10".to_string(), |text, i| text + &format!(",or,2,ev,{},0,ev,{},0", [2, 3, 7][i % 3], [9, 12, 15, 20][i % 4]));
     row("3,000 lines, and of 10 or", &ten, &evening, 3_000);
     let mut rng = Rng(40);
+    let long_leaves = (0..31).fold("or,31".to_string(), |text, i| text + &format!(",ev,{},{}", 225 + i, 69 + i));
+    row("3,000 lines, long numbers", &long_leaves, &long_numbers(&mut rng), 3_000);
+    row("no line, the same pattern", &long_leaves, b"", 1);
     let evenings: Vec<_> = (0..40).map(|_| shuffled(&mut rng, &evening)).collect();
     over_logs("40 logs in turn, six operators", SIX, &evenings, 3_000);
     over_logs("40 logs in turn, or of 31 leaves", &leaves("or"), &evenings, 3_000);

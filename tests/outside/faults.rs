@@ -1,5 +1,6 @@
 //! Wrong variants of the plain calls: each exchanges one part.
 
+use crate::digit_faults;
 use crate::lane_faults;
 use crate::lent::{self, Taken};
 use crate::pick_faults;
@@ -108,6 +109,7 @@ pub fn variants() -> Vec<(&'static str, Plain)> {
     all.extend(over_log_alone());
     all.extend(pick_faults::variants());
     all.extend(witness_faults::variants());
+    all.extend(digit_faults::variants());
     all
 }
 
@@ -200,10 +202,10 @@ fn over_reading() -> Vec<(&'static str, Plain)> {
     let accept = |accept| Plain { accept, ..RIGHT };
     let lists = |lists| Plain { lists, ..RIGHT };
     vec![
-        ("damaged lines skipped in the count", log(|log| r::read_log(log).into_iter().filter(Option::is_some).collect())),
+        ("damaged lines skipped in the count", log(|log, _| r::read_log(log).into_iter().filter(Option::is_some).collect())),
         (
             "layout 2's fourth field as the frame",
-            log(|log| {
+            log(|log, _| {
                 let exchange = |record: Record| match record.layout {
                     r::Layout::Two { handicap } => Record { frame: handicap, ..record },
                     r::Layout::One => record,
@@ -211,30 +213,30 @@ fn over_reading() -> Vec<(&'static str, Plain)> {
                 r::read_log(log).into_iter().map(|line| line.map(exchange)).collect()
             }),
         ),
-        ("an unended line read as sound", log(|log| mended(log, |line| format!("{line}\n")))),
-        ("a carriage return passed over", log(|log| mended(log, |line| line.replacen("\r\n", "\n", 1)))),
-        ("handicap 301", log(|log| mended(log, |line| line.replacen(",301,", ",300,", 1)))),
-        ("pins 11", log(|log| mended(log, |line| line.replacen(",11\n", ",10\n", 1)))),
+        ("an unended line read as sound", log(|log, _| mended(log, |line| format!("{line}\n")))),
+        ("a carriage return passed over", log(|log, _| mended(log, |line| line.replacen("\r\n", "\n", 1)))),
+        ("handicap 301", log(|log, _| mended(log, |line| line.replacen(",301,", ",300,", 1)))),
+        ("pins 11", log(|log, _| mended(log, |line| line.replacen(",11\n", ",10\n", 1)))),
         (
             "a field too many",
-            log(|log| mended(log, |line| line.rsplit_once(',').map_or(String::new(), |(head, _)| head.to_string() + "\n"))),
+            log(|log, _| mended(log, |line| line.rsplit_once(',').map_or(String::new(), |(head, _)| head.to_string() + "\n"))),
         ),
-        ("a place one less", pattern(|text| place_moved(text, -1))),
-        ("a place one more", pattern(|text| place_moved(text, 1))),
-        ("33 nodes", pattern(|text| bounded(text, 33, 8))),
-        ("31 nodes", pattern(|text| r::read_pattern(text).and_then(|t| if t.nodes() > 31 { refused(4) } else { Ok(t) }))),
-        ("9 deep", pattern(|text| bounded(text, 32, 9))),
-        ("7 deep", pattern(|text| r::read_pattern(text).and_then(|t| if t.depth() > 7 { refused(5) } else { Ok(t) }))),
+        ("a place one less", pattern(|text, _| place_moved(text, -1))),
+        ("a place one more", pattern(|text, _| place_moved(text, 1))),
+        ("33 nodes", pattern(|text, _| bounded(text, 33, 8))),
+        ("31 nodes", pattern(|text, _| r::read_pattern(text).and_then(|t| if t.nodes() > 31 { refused(4) } else { Ok(t) }))),
+        ("9 deep", pattern(|text, _| bounded(text, 32, 9))),
+        ("7 deep", pattern(|text, _| r::read_pattern(text).and_then(|t| if t.depth() > 7 { refused(5) } else { Ok(t) }))),
         (
             "deep before crowded",
-            pattern(|text| match r::read_pattern(text) {
+            pattern(|text, _| match r::read_pattern(text) {
                 Err(e) if e.number == 4 && r::spelling(text).unwrap().depth() > 8 => refused(5),
                 right => right,
             }),
         ),
         (
             "crowded before misspelt",
-            pattern(|text| match r::read_pattern(text) {
+            pattern(|text, _| match r::read_pattern(text) {
                 Err(e) if e.number == 3 && text.split(|&b| b == b',').filter(|p| matches!(p, [b'a'..=b'z', _, ..])).count() > 32 => {
                     refused(4)
                 }
@@ -243,17 +245,17 @@ fn over_reading() -> Vec<(&'static str, Plain)> {
         ),
         (
             "1,025 bytes of pattern",
-            pattern(|text| match r::spelling(text) {
+            pattern(|text, _| match r::spelling(text) {
                 Err(place) if text.len() == 1_025 => Err(Refusal { number: 3, place: place as u64 }),
                 _ => r::read_pattern(text),
             }),
         ),
-        ("every pattern refused", pattern(|_| Err(Refusal { number: 3, place: 0 }))),
-        ("61,441 bytes of log", accept(|parts, pattern, log| if log.len() > LOG_MAX + 1 { refused(1) } else { (parts.pattern)(pattern) })),
-        ("61,439 bytes of log", accept(|parts, pattern, log| if log.len() >= LOG_MAX { refused(1) } else { (parts.pattern)(pattern) })),
+        ("every pattern refused", pattern(|_, _| Err(Refusal { number: 3, place: 0 }))),
+        ("61,441 bytes of log", accept(|parts, pattern, log| if log.len() > LOG_MAX + 1 { refused(1) } else { parts.tree(pattern) })),
+        ("61,439 bytes of log", accept(|parts, pattern, log| if log.len() >= LOG_MAX { refused(1) } else { parts.tree(pattern) })),
         (
             "the pattern before the log",
-            accept(|parts, pattern, log| (parts.pattern)(pattern).and_then(|tree| if log.len() > LOG_MAX { refused(1) } else { Ok(tree) })),
+            accept(|parts, pattern, log| parts.tree(pattern).and_then(|tree| if log.len() > LOG_MAX { refused(1) } else { Ok(tree) })),
         ),
         ("k passed over", lists(|op, k, items, ends| lent::read_lists(op, if op == 6 { k } else { 0 }, items, ends))),
         ("k of 65,536", lists(|op, k, items, ends| lent::read_lists(op, if k == 65_536 { k - 1 } else { k }, items, ends))),
@@ -444,20 +446,20 @@ fn over_log_alone() -> Vec<(&'static str, Plain)> {
     let count = |count| Plain { count, ..RIGHT };
     let lines = |lines| Plain { lines, ..RIGHT };
     vec![
-        ("a line without line feed left out of the count", count(|log| r::count(log) - unended(log) * (1 << 32 | 1 << 16))),
-        ("a line without line feed counted as sound", count(|log| r::count(log) - unended(log) * (1 << 16))),
-        ("damaged counted as sound", count(|log| r::count(log) & !0xffff_0000)),
-        ("damaged lines left out of the lines", count(|log| r::count(log) - ((r::count(log) >> 16 & 0xffff) << 32))),
+        ("a line without line feed left out of the count", count(|log, _| r::count(log) - unended(log) * (1 << 32 | 1 << 16))),
+        ("a line without line feed counted as sound", count(|log, _| r::count(log) - unended(log) * (1 << 16))),
+        ("damaged counted as sound", count(|log, _| r::count(log) & !0xffff_0000)),
+        ("damaged lines left out of the lines", count(|log, _| r::count(log) - ((r::count(log) >> 16 & 0xffff) << 32))),
         (
             "lines and damaged exchanged in the count",
-            count(|log| match r::count(log) {
+            count(|log, _| match r::count(log) {
                 1 => 1,
                 n => (n >> 16 & 0xffff) << 32 | n >> 32 << 16,
             }),
         ),
-        ("a long log counted", count(|log| counted(r::read_log(log)))),
-        ("a long log refused, and counted too", count(|log| r::count(log) & 1 | counted(r::read_log(log)))),
-        ("61,440 bytes not counted", count(|log| if log.len() >= LOG_MAX { 1 } else { r::count(log) })),
+        ("a long log counted", count(|log, _| counted(r::read_log(log)))),
+        ("a long log refused, and counted too", count(|log, _| r::count(log) & 1 | counted(r::read_log(log)))),
+        ("61,440 bytes not counted", count(|log, _| if log.len() >= LOG_MAX { 1 } else { r::count(log) })),
         (
             "the last line feed left out of the part",
             lines(|log, first, last| {

@@ -37,7 +37,7 @@ fn starts_of_numbers() -> Outcome {
         let spelled = (low..=high).map(|v: u32| v.to_string());
         let starts: HashSet<String> = spelled.flat_map(|s| (1..=s.len()).map(move |n| s[..n].to_string())).collect();
         for text in &texts {
-            let by_rule = reference::starts_number(text.as_bytes(), low, high);
+            let by_rule = reference::starts_number(text.as_bytes(), low, high, reference::value);
             agree("starts of numbers", by_rule, starts.contains(text), || format!("{text} of {low} to {high}"))?;
         }
     }

@@ -54,14 +54,14 @@ pub fn variants() -> Vec<(&'static str, Plain)> {
 fn over_lanes() -> Vec<(&'static str, Plain)> {
     let log = |log| Plain { log, ..RIGHT };
     vec![
-        ("padded lanes damaged", log(|log| changed(log, |f| is_padded(f[1]).then_some((1, ""))))),
-        ("padded lanes damaged in layout 1", log(|log| changed(log, |f| (f[0] == "1" && is_padded(f[1])).then_some((1, ""))))),
-        ("padded lanes damaged in layout 2", log(|log| changed(log, |f| (f[0] == "2" && is_padded(f[1])).then_some((1, ""))))),
-        ("lane 01 damaged", log(|log| changed(log, |f| (f[1] == "01").then_some((1, ""))))),
-        ("lane 09 damaged", log(|log| changed(log, |f| (f[1] == "09").then_some((1, ""))))),
+        ("padded lanes damaged", log(|log, _| changed(log, |f| is_padded(f[1]).then_some((1, ""))))),
+        ("padded lanes damaged in layout 1", log(|log, _| changed(log, |f| (f[0] == "1" && is_padded(f[1])).then_some((1, ""))))),
+        ("padded lanes damaged in layout 2", log(|log, _| changed(log, |f| (f[0] == "2" && is_padded(f[1])).then_some((1, ""))))),
+        ("lane 01 damaged", log(|log, _| changed(log, |f| (f[1] == "01").then_some((1, ""))))),
+        ("lane 09 damaged", log(|log, _| changed(log, |f| (f[1] == "09").then_some((1, ""))))),
         (
             "unpadded lanes damaged after a padded one",
-            log(|log| {
+            log(|log, _| {
                 let seen = Cell::new(false);
                 changed(log, |f| {
                     seen.set(seen.get() || is_padded(f[1]));
@@ -69,20 +69,20 @@ fn over_lanes() -> Vec<(&'static str, Plain)> {
                 })
             }),
         ),
-        ("lane 04 as 40", log(|log| changed(log, |f| (f[1] == "04").then_some((1, "40"))))),
-        ("lane 00 as 1", log(|log| changed(log, |f| (f[1] == "00").then_some((1, "1"))))),
+        ("lane 04 as 40", log(|log, _| changed(log, |f| (f[1] == "04").then_some((1, "40"))))),
+        ("lane 00 as 1", log(|log, _| changed(log, |f| (f[1] == "00").then_some((1, "1"))))),
         (
             "lane 00 as 0",
-            log(|log| {
+            log(|log, _| {
                 let as_one = changed(log, |f| (f[1] == "00").then_some((1, "1")));
                 let as_zero = |record| Record { lane: 0, ..record };
                 r::read_log(log).into_iter().zip(as_one).map(|(right, wrong)| right.or(wrong.map(as_zero))).collect()
             }),
         ),
-        ("lanes 010 to 099 as 10 to 99", log(|log| changed(log, |f| unpadded(f[1]).filter(|n| n.len() == 2).map(|n| (1, n))))),
-        ("lane 012 as 12", log(|log| changed(log, |f| (f[1] == "012").then_some((1, "12"))))),
-        ("lane 099 as 99", log(|log| changed(log, |f| (f[1] == "099").then_some((1, "99"))))),
-        ("lane 004 as 4", log(|log| changed(log, |f| (f[1] == "004").then_some((1, "4"))))),
+        ("lanes 010 to 099 as 10 to 99", log(|log, _| changed(log, |f| unpadded(f[1]).filter(|n| n.len() == 2).map(|n| (1, n))))),
+        ("lane 012 as 12", log(|log, _| changed(log, |f| (f[1] == "012").then_some((1, "12"))))),
+        ("lane 099 as 99", log(|log, _| changed(log, |f| (f[1] == "099").then_some((1, "99"))))),
+        ("lane 004 as 4", log(|log, _| changed(log, |f| (f[1] == "004").then_some((1, "4"))))),
     ]
 }
 
@@ -91,17 +91,17 @@ fn over_other_numbers() -> Vec<(&'static str, Plain)> {
     let log = |log| Plain { log, ..RIGHT };
     let pattern = |pattern| Plain { pattern, ..RIGHT };
     vec![
-        ("a padded layout", log(|log| changed(log, |f| unpadded(f[0]).map(|n| (0, n))))),
-        ("a padded code", log(|log| changed(log, |f| unpadded(f[2]).map(|n| (2, n))))),
-        ("a padded handicap", log(|log| changed(log, |f| unpadded(f[3]).filter(|_| f[0] == "2").map(|n| (3, n))))),
-        ("a padded frame", log(|log| changed(log, |f| unpadded(f[f.len() - 2]).map(|n| (f.len() - 2, n))))),
-        ("padded pins", log(|log| changed(log, |f| unpadded(f[f.len() - 1]).map(|n| (f.len() - 1, n))))),
-        ("a padded lane in ev", pattern(|text| respelt(text, "ev", 2))),
-        ("a padded lane in fr", pattern(|text| respelt(text, "fr", 2))),
-        ("a padded code in ev", pattern(|text| respelt(text, "ev", 1))),
-        ("a padded frame in fr", pattern(|text| respelt(text, "fr", 1))),
-        ("a padded k in max", pattern(|text| respelt(text, "max", 1))),
-        ("a padded number of operands", pattern(|text| respelt(text, "or", 1))),
+        ("a padded layout", log(|log, _| changed(log, |f| unpadded(f[0]).map(|n| (0, n))))),
+        ("a padded code", log(|log, _| changed(log, |f| unpadded(f[2]).map(|n| (2, n))))),
+        ("a padded handicap", log(|log, _| changed(log, |f| unpadded(f[3]).filter(|_| f[0] == "2").map(|n| (3, n))))),
+        ("a padded frame", log(|log, _| changed(log, |f| unpadded(f[f.len() - 2]).map(|n| (f.len() - 2, n))))),
+        ("padded pins", log(|log, _| changed(log, |f| unpadded(f[f.len() - 1]).map(|n| (f.len() - 1, n))))),
+        ("a padded lane in ev", pattern(|text, _| respelt(text, "ev", 2))),
+        ("a padded lane in fr", pattern(|text, _| respelt(text, "fr", 2))),
+        ("a padded code in ev", pattern(|text, _| respelt(text, "ev", 1))),
+        ("a padded frame in fr", pattern(|text, _| respelt(text, "fr", 1))),
+        ("a padded k in max", pattern(|text, _| respelt(text, "max", 1))),
+        ("a padded number of operands", pattern(|text, _| respelt(text, "or", 1))),
     ]
 }
 
@@ -120,10 +120,10 @@ fn over_log_alone() -> Vec<(&'static str, Plain)> {
     }
     let count = |count| Plain { count, ..RIGHT };
     vec![
-        ("padded lanes counted as damaged", count(|log| counted(log, |f| is_padded(f[1]).then_some((1, ""))))),
-        ("lane 00 counted as sound", count(|log| counted(log, |f| (f[1] == "00").then_some((1, "1"))))),
-        ("lane 012 counted as sound", count(|log| counted(log, |f| (f[1] == "012").then_some((1, "12"))))),
-        ("a padded code counted as sound", count(|log| counted(log, |f| unpadded(f[2]).map(|n| (2, n))))),
+        ("padded lanes counted as damaged", count(|log, _| counted(log, |f| is_padded(f[1]).then_some((1, ""))))),
+        ("lane 00 counted as sound", count(|log, _| counted(log, |f| (f[1] == "00").then_some((1, "1"))))),
+        ("lane 012 counted as sound", count(|log, _| counted(log, |f| (f[1] == "012").then_some((1, "12"))))),
+        ("a padded code counted as sound", count(|log, _| counted(log, |f| unpadded(f[2]).map(|n| (2, n))))),
         (
             "parts as if no lane were padded",
             Plain { lines: |log, first, last| r::part_result(r::part(&without(log), first, last)), ..RIGHT },

@@ -1,9 +1,13 @@
 //! Compares every call of the archives with an independent reference on seeded inputs, a line for each group; a difference is reported
-//! with its input and makes the run fail. `--selftest` shows that wrong variants of the calls are caught by the same comparisons.
+//! with its input and makes the run fail. `--selftest` shows that wrong variants of the calls, and wrong charts, are caught by the same
+//! comparisons.
 
 mod calls;
+mod chart;
 mod compare;
 mod damaged_spells;
+mod digit_faults;
+mod digits;
 mod faults;
 mod inputs;
 mod itself;
@@ -51,7 +55,7 @@ pub type Outcome = Result<usize, String>;
 type Group = (&'static str, fn(&Trial) -> Outcome);
 
 /// Groups that try the calls on seeded inputs.
-const SEEDED: [Group; 27] = [
+const SEEDED: [Group; 28] = [
     ("patterns", over_logs::patterns),
     ("lines", over_logs::lines),
     ("logs", over_logs::logs),
@@ -79,12 +83,15 @@ const SEEDED: [Group; 27] = [
     ("long witnesses", witnesses::long),
     ("laws of witnesses", witness_laws::laws),
     ("witnesses in runs", witness_laws::runs),
+    ("digit values", digits::values),
 ];
 
-const FIXED: [Group; 8] = [
+const FIXED: [Group; 10] = [
     ("reference", itself::reference),
     ("worked cases", itself::cases),
     ("lane fields", lanes::cases),
+    ("worked numbers", digits::cases),
+    ("wall chart", chart::charts),
     ("worked spells", worked_spells::cases),
     ("samples", over_logs::samples),
     ("log alone", log_alone::cases),
@@ -109,7 +116,7 @@ fn compare_archive() -> usize {
 }
 
 /// Runs the seeded groups, shortened, on the right plain calls and on each wrong variant: the right ones must pass, each wrong one must be
-/// caught by some group, and each group must catch some. Gives the number of failures.
+/// caught by some group, and each group must catch some. A wrong chart must be caught too. Gives the number of failures.
 fn selftest() -> usize {
     let report = |calls: &plain::Plain, (name, group): &Group| {
         let found = group(&Trial { calls, part: 20 }).err();
@@ -137,8 +144,10 @@ fn selftest() -> usize {
     let others = SEEDED.iter().filter(|(name, _)| !busy.contains(name));
     let idle = others.filter(|group| !variants.iter().any(|(_, plain)| report(plain, group).is_some()));
     failed.extend(idle.map(|(name, _)| format!("{name} catches nothing")));
+    let (charts, passed) = chart::selftest();
+    failed.extend(passed);
     failed.iter().for_each(|what| println!("selftest: FAILED: {what}"));
-    println!("selftest: {} wrong variants caught, {} failures", variants.len(), failed.len());
+    println!("selftest: {} wrong variants and {charts} wrong charts caught, {} failures", variants.len(), failed.len());
     failed.len()
 }
 

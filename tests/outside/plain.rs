@@ -3,7 +3,7 @@
 use crate::calls::Calls;
 use crate::lent::{self, Taken};
 use crate::quick;
-use crate::reference::{self as r, refused, Apply, List, Op, Record, Refusal, Stretch, Tree, LOG_MAX};
+use crate::reference::{self as r, refused, Apply, List, Op, Record, Refusal, Stretch, Tree, Value, LOG_MAX};
 use crate::shown::{self, Node, Triple, Way};
 
 /// The calls over a pattern and a log.
@@ -17,8 +17,10 @@ pub enum Call {
 #[derive(Clone, Copy)]
 pub struct Plain {
     pub accept: fn(&Plain, &[u8], &[u8]) -> Result<Tree, Refusal>,
-    pub pattern: fn(&[u8]) -> Result<Tree, Refusal>,
-    pub log: fn(&[u8]) -> Vec<Option<Record>>,
+    pub pattern: fn(&[u8], Value) -> Result<Tree, Refusal>,
+    pub pattern_value: Value<'static>,
+    pub log: fn(&[u8], Value) -> Vec<Option<Record>>,
+    pub log_value: Value<'static>,
     pub list: fn(&Plain, Call, &Tree, &[u8]) -> List,
     pub apply: Apply,
     pub sound_lines: fn(&[Option<Record>], Stretch) -> u32,
@@ -35,17 +37,19 @@ pub struct Plain {
     pub shown: fn(&Plain, &Node, u64) -> Vec<Triple>,
     pub witness: fn(&Result<Vec<Triple>, Refusal>, &mut [u32]) -> u64,
     pub take: fn(&Result<Taken, Refusal>, &mut [u32]) -> u64,
-    pub count: fn(&[u8]) -> u64,
+    pub count: fn(&[u8], Value) -> u64,
     pub lines: fn(&[u8], u32, u32) -> u64,
 }
 
 /// Every part as the reference has it.
 pub const RIGHT: Plain = Plain {
-    accept: |parts, pattern, log| if log.len() > LOG_MAX { refused(1) } else { (parts.pattern)(pattern) },
-    pattern: r::read_pattern,
-    log: r::read_log,
+    accept: |parts, pattern, log| if log.len() > LOG_MAX { refused(1) } else { parts.tree(pattern) },
+    pattern: r::read_pattern_by,
+    pattern_value: r::BY_CHART,
+    log: r::read_log_by,
+    log_value: r::BY_CHART,
     list: |parts, _, tree, log| {
-        let lines = (parts.log)(log);
+        let lines = parts.readings(log);
         r::evaluate(tree, &lines, parts.apply, &|a| (parts.sound_lines)(&lines, a))
     },
     apply: |op, k, lists, measure| quick::apply(op, k, lists, measure),
@@ -59,18 +63,26 @@ pub const RIGHT: Plain = Plain {
     pick: |answers, k, cells| r::pick(answers, k, cells, quick::picks),
     pick_in: |parts, _, answers, k, cells| (parts.pick)(answers, k, cells),
     node: |parts, tree, log| {
-        let lines = (parts.log)(log);
+        let lines = parts.readings(log);
         shown::node(tree, 0, &lines, parts.apply, &|a| (parts.sound_lines)(&lines, a))
     },
     below: shown::quick_below,
     shown: |parts, root, number| shown::of_number(root, number, parts.below),
     witness: shown::write,
     take: lent::take,
-    count: r::count,
+    count: r::count_by,
     lines: |log, first, last| r::part_result(r::part(log, first, last)),
 };
 
 impl Plain {
+    pub fn tree(&self, pattern: &[u8]) -> Result<Tree, Refusal> {
+        (self.pattern)(pattern, self.pattern_value)
+    }
+
+    fn readings(&self, log: &[u8]) -> Vec<Option<Record>> {
+        (self.log)(log, self.log_value)
+    }
+
     fn answers(&self, call: Call, pattern: &[u8], log: &[u8]) -> Result<List, Refusal> {
         (self.accept)(self, pattern, log).map(|tree| (self.list)(self, call, &tree, log))
     }
@@ -107,7 +119,7 @@ impl Calls for Plain {
     }
 
     fn count(&self, log: &[u8]) -> u64 {
-        (self.count)(log)
+        (self.count)(log, self.log_value)
     }
 
     fn lines(&self, log: &[u8], first: u32, last: u32) -> u64 {
