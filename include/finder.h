@@ -21,10 +21,10 @@
 #include <stddef.h>
 #include <stdint.h>
 
-#define FINDER_VERSION "1.4.0"
+#define FINDER_VERSION "1.4.1"
 #define FINDER_VERSION_MAJOR 1
 #define FINDER_VERSION_MINOR 4
-#define FINDER_VERSION_PATCH 0
+#define FINDER_VERSION_PATCH 1
 
 #ifdef __cplusplus
 extern "C" {
