@@ -1,4 +1,5 @@
--- Whatever the calls show is the list of the pattern in the log, and the calls do show it; so a run of whole lines decides its own stretches. Assumes nothing.
+-- Whatever the calls show is the list of the pattern in the log, and the calls do show it; so a run of whole lines decides its own stretches, for patterns without `in` and `out`.
+-- Assumes nothing.
 use Prim.Native.Nat.{ℕ, zero, suc, _*_, _≤_}
 use mathlib.Core.Path.{_≡_, refl, sym, ap, _∙_}
 use mathlib.Core.Logic.{inl, inr}
@@ -13,7 +14,7 @@ use Rattle.stretches.specs.Run.{inRun}
 use Rattle.stretches.proofs.Filling.{filled-front, done-all, room-done, drop-step}
 use Rattle.lines.specs.Lines.{lines, Whole}
 use Rattle.meaning.specs.Refusals.{Refusal, refusal, accepted}
-use Rattle.meaning.specs.Finding.{listOf}
+use Rattle.meaning.specs.Finding.{LocalText, listOf}
 use Rattle.meaning.proofs.Finding.{good-pattern, accepted-number, run-accepted, run-list}
 use Rattle.finder.specs.declared.Finder.{Finder}
 use Rattle.finder.specs.declared.Answer.the-variants.{None, Stretch}
@@ -86,21 +87,22 @@ accepted-there pattern log e = let z : refusal pattern log .number ≡ 0 = ap (�
 -- ── Demand 3 ──
 
 -- a run of whole lines decides its own stretches: whatever whole lines precede it and whatever follows it in an accepted log, the run alone is accepted,
--- and the stretches that lie wholly within it, counted from its first line, are those of the run alone, in the same order, whichever way they are taken
+-- and the stretches that lie wholly within it, counted from its first line, are those of the run alone, in the same order, whichever way they are taken, where
+-- the pattern has no `in` and no `out`
 pub run-decides : (pattern a run b : List ℕ) → Whole a → Whole run → Accepted pattern (a ++ (run ++ b))
-    → Accepted pattern run × ((xs ys : List s.Stretch) → Shown pattern (a ++ (run ++ b)) xs → Shown pattern run ys
+    → Accepted pattern run × (LocalText pattern → (xs ys : List s.Stretch) → Shown pattern (a ++ (run ++ b)) xs → Shown pattern run ys
     → inRun (length (lines a)) (length (lines run)) xs ≡ ys)
 run-decides pattern a run b wa wr ok =
     let e = accepted-only pattern (a ++ (run ++ b)) ok in (
       accepted-there pattern run (run-accepted pattern a run b e),
-      λ xs ys p q. ap (inRun (length (lines a)) (length (lines run))) (shown-list pattern (a ++ (run ++ b)) xs p) ∙ run-list pattern a run b e wa wr ∙ sym (shown-list pattern run ys q),
+      λ loc xs ys p q. ap (inRun (length (lines a)) (length (lines run))) (shown-list pattern (a ++ (run ++ b)) xs p) ∙ run-list pattern a run b e loc wa wr ∙ sym (shown-list pattern run ys q),
     )
 
 -- the same run in two accepted logs, at any two places
-pub runs-agree : (pattern a b c d run : List ℕ) → Whole a → Whole c → Whole run
+pub runs-agree : (pattern a b c d run : List ℕ) → LocalText pattern → Whole a → Whole c → Whole run
     → Accepted pattern (a ++ (run ++ b)) → Accepted pattern (c ++ (run ++ d))
     → (xs ys : List s.Stretch) → Shown pattern (a ++ (run ++ b)) xs → Shown pattern (c ++ (run ++ d)) ys
     → inRun (length (lines a)) (length (lines run)) xs ≡ inRun (length (lines c)) (length (lines run)) ys
-runs-agree pattern a b c d run wa wc wr ok ok′ xs ys p q =
+runs-agree pattern a b c d run loc wa wc wr ok ok′ xs ys p q =
     let l = listOf pattern run in
-    run-decides pattern a run b wa wr ok .1 xs l p (inl (taken-there pattern run)) ∙ sym (run-decides pattern c run d wc wr ok′ .1 ys l q (inl (taken-there pattern run)))
+    run-decides pattern a run b wa wr ok .1 loc xs l p (inl (taken-there pattern run)) ∙ sym (run-decides pattern c run d wc wr ok′ .1 loc ys l q (inl (taken-there pattern run)))

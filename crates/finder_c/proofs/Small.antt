@@ -123,7 +123,7 @@ taken-in o ls f p x e = by o e
     by And k = fits And (sym (and-taken ls (f .rising) (f .sound) p) ∙ k)
     by Row k = never (sym (idle ls (λ s. s) (λ s. refl) (taking Row ls) refl (λ p. refl) p) ∙ k)
     by Then k = never (sym (idle ls (λ s. s) (λ s. refl) (taking Then ls) refl (λ p. refl) p) ∙ k)
-    by (Keep f) k = never (sym (idle ls (λ s. s) (λ s. refl) (taking (Keep f) ls) refl (λ p. refl) p) ∙ k)
+    by (Keep f b) k = never (sym (idle ls (λ s. s) (λ s. refl) (taking (Keep f b) ls) refl (λ p. refl) p) ∙ k)
 
 taken-by : (o : Option Op) (ls : List (List Stretch)) → AllFine 65536 ls → (p : ℕ) (g : Front) → takenBy o ls p .answer ≡ g → (given g .start ≤ 65535) × (given g .end ≤ 65535)
 taken-by o ls f p None e = (omega arith, omega arith)

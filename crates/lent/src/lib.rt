@@ -11,11 +11,11 @@ ghost use Rattle.meaning.specs.Refusals.{takesLists, takesBound, miscalled, mis
 fn takes_lists(op: u32, n: usize) -> bool
     ensures { λ r. ⌜ r ≡ takesLists op n ⌝ }
 {
-    if op == 5 {
-        return n == 2;
-    }
     if op == 6 {
         return n == 1;
+    }
+    if 5 <= op {
+        return n == 2;
     }
     if n < 2 {
         return false;
@@ -43,7 +43,7 @@ fn miscalled(op: u32, k: u32, ends: &[u32]) -> bool
     if op < 1 {
         return true;
     }
-    if 6 < op {
+    if 9 < op {
         return true;
     }
     if !takes_lists(op, ends.len()) {

@@ -28,8 +28,8 @@ use Rattle.lent.proofs.Accepting.{accepted}
 
 -- how many lists an operator that is not miscalled has
 few-lists : (op n : ℕ) → takesLists op n ≡ true → n ≤ 31
-few-lists op n h = cases (eqb op 5) (λ b. cond b (eqb n 2) (cond (eqb op 6) (eqb n 1) (leb 2 n && leb n 31)) ≡ true → n ≤ 31) (λ k e. omega (arith, eqb-true n 2 e))
-    (λ k. cases (eqb op 6) (λ b. cond b (eqb n 1) (leb 2 n && leb n 31) ≡ true → n ≤ 31) (λ k e. omega (arith, eqb-true n 1 e)) (λ k e. leb-true n 31 (and-true (leb 2 n) (leb n 31) e .1))) h
+few-lists op n h = cases (eqb op 6) (λ b. cond b (eqb n 1) (cond (leb 5 op) (eqb n 2) (leb 2 n && leb n 31)) ≡ true → n ≤ 31) (λ k e. omega (arith, eqb-true n 1 e))
+    (λ k. cases (leb 5 op) (λ b. cond b (eqb n 2) (leb 2 n && leb n 31) ≡ true → n ≤ 31) (λ k e. omega (arith, eqb-true n 2 e)) (λ k e. leb-true n 31 (and-true (leb 2 n) (leb n 31) e .1))) h
 
 module _ (op k : ℕ) (items ends cells : List ℕ) (f n : ℕ) (is : n ≡ listsRefusal op k items ends) where
   module _ (no : n ≡ 0 → ⊥) where
@@ -47,7 +47,7 @@ module _ (op k : ℕ) (items ends cells : List ℕ) (f n : ℕ) (is : n ≡ list
   -- an operator over at most 31 lists, these in order and inside the items
   pub record Fills : Type 0 where
     pub low : 1 ≤ op
-    pub high : op ≤ 6
+    pub high : op ≤ 9
     pub few : length ends ≤ 31
     pub order : AllFine 65536 (listsOf items ends)
     pub inside : (j : ℕ) → getD ends j 0 ≤ length items
@@ -60,12 +60,12 @@ module _ (op k : ℕ) (items ends cells : List ℕ) (f n : ℕ) (is : n ≡ list
     unfolding listsRefusal
     fills =
         let a = accepted (miscalled op k ends) items ends (sym is ∙ yes) in
-        let u = or-false (not (leb 1 op && leb op 6)) (not (takesLists op (length ends)) || not (takesBound op k)) (a .called) in
-        let v = and-true (leb 1 op) (leb op 6) (not-false (leb 1 op && leb op 6) (u .0)) in
+        let u = or-false (not (leb 1 op && leb op 9)) (not (takesLists op (length ends)) || not (takesBound op k)) (a .called) in
+        let v = and-true (leb 1 op) (leb op 9) (not-false (leb 1 op && leb op 9) (u .0)) in
         let w = or-false (not (takesLists op (length ends))) (not (takesBound op k)) (u .1) in
         record {
           low = leb-true 1 op (v .0);
-          high = leb-true op 6 (v .1);
+          high = leb-true op 9 (v .1);
           few = few-lists op (length ends) (not-false (takesLists op (length ends)) (w .0));
           order = fine-lists (listsOf items ends) (a .order);
           inside = ends-inside items ends (a .cut);

@@ -128,7 +128,7 @@ start-next ends i = let z : suc i ≡ i + 1 = omega arith in ap (startOf ends) z
 
 -- ── What the table stands for ──
 
-module _ (op k : ℕ) (items ends rows : List ℕ) (l : Laid op k (length ends) ends (length ends) rows) (lo : 1 ≤ op) (hi : op ≤ 6) (few : length ends ≤ 31)
+module _ (op k : ℕ) (items ends rows : List ℕ) (l : Laid op k (length ends) ends (length ends) rows) (lo : 1 ≤ op) (hi : op ≤ 9) (few : length ends ≤ 31)
     (inside : (j : ℕ) → getD ends j 0 ≤ length items) where
   -- list j stands at node 1 + j
   own-list : (j : ℕ) → j < length ends → given (source [] items []) rows .own (1 + j) ≡ getD (listsOf items ends) j []

@@ -1,7 +1,7 @@
 -- Laws of the refusals and of the list of a pattern in a log: each refusal by its cause, the list where both are accepted, that 9 never comes,
 -- the undamaged run for that list, and when the picking call is accepted. Assumes nothing.
 use Prim.Native.Nat.{ℕ, _≤_, _<_}
-use mathlib.Core.Path.{_≡_, refl, sym, ap, ap₂, _∙_}
+use mathlib.Core.Path.{_≡_, refl, sym, ap, ap₂, subst, _∙_}
 use mathlib.Core.Bool.{Bool, true, false, not, cond, _&&_}
 use mathlib.Core.List.{List, [], _++_}
 use lib.ListN.{length, length-append}
@@ -17,7 +17,7 @@ use Rattle.pattern.specs.Reading.{Outcome, Accepts, Refuses, outcomeOf}
 use Rattle.pattern.proofs.Outcomes.{refuses-says}
 use Rattle.meaning.specs.Meaning.{answersIn}
 use Rattle.meaning.specs.Refusals.{Refusal, refused, accepted, flood, badCount, ofPattern, refusal, pickRefusal}
-use Rattle.meaning.specs.Finding.{answersBy, listOf}
+use Rattle.meaning.specs.Finding.{answersBy, LocalBy, LocalText, listOf}
 use Rattle.meaning.proofs.Tree.{few-answers}
 use Rattle.meaning.proofs.Run.{says-length, run-bytes}
 
@@ -79,19 +79,19 @@ accepted-number pattern log e = go (ltb 61440 (length log)) refl (outcomeOf patt
 pub accepted-by : (pattern log : List ℕ) → refusal pattern log ≡ accepted → AcceptedPattern pattern log
 accepted-by pattern log e = accepted-number pattern log (ap (λ (x : Refusal). x .number) e)
 
--- the undamaged run, for the list of an accepted pattern and log: the run alone is accepted, and has the part of the list that lies within it
+-- the undamaged run, for the list of an accepted pattern and log: the run alone is accepted, and has, without `in` and `out`, the part of the list that lies within it
 module _ (pattern a run b : List ℕ) (e : refusal pattern (a ++ (run ++ b)) ≡ accepted) where
   pub run-accepted : refusal pattern run ≡ accepted
   run-accepted =
       let k = accepted-by pattern (a ++ (run ++ b)) e in
       good-pattern pattern run (k .tree) (omega (arith, k .brief, length-append a (run ++ b), length-append run b)) (k .reads)
 
-  pub run-list : Whole a → Whole run → inRun (length (lines a)) (length (lines run)) (listOf pattern (a ++ (run ++ b))) ≡ listOf pattern run
-  run-list wa wr =
+  pub run-list : LocalText pattern → Whole a → Whole run → inRun (length (lines a)) (length (lines run)) (listOf pattern (a ++ (run ++ b))) ≡ listOf pattern run
+  run-list loc wa wr =
       let k = accepted-by pattern (a ++ (run ++ b)) e in
       let j = accepted-by pattern run run-accepted in
       ap (inRun (length (lines a)) (length (lines run))) (accepted-list pattern (a ++ (run ++ b)) (k .tree) (k .brief) (k .reads))
-      ∙ (run-bytes (k .tree) a run b wa wr ∙ sym (accepted-list pattern run (k .tree) (j .brief) (k .reads)))
+      ∙ (run-bytes (k .tree) (subst LocalBy (k .reads) loc) a run b wa wr ∙ sym (accepted-list pattern run (k .tree) (j .brief) (k .reads)))
 
 -- the picking call is refused as pattern and log are, and then by its count
 module _ (pattern log : List ℕ) (k : ℕ) where

@@ -11,21 +11,22 @@ use lib.Seq.{getD-append-add}
 use lib.Dec.{eqb}
 use borrow.Author.Tests.{eq-eqb, ne-eqb, not-true}
 use native.Mathlib.Omega.{arith}
-use Rattle.basics.proofs.Basics.{cases, le-or-lt}
-use Rattle.stretches.specs.Stretch.{Stretch, In, Fine, Op}
+use Rattle.basics.proofs.Basics.{cases, le-or-lt, take-map}
+use Rattle.stretches.specs.Stretch.{Stretch, In, Fine, Op, answers}
+use Rattle.stretches.specs.Stretch as op
 use Rattle.stretches.specs.Front.{Front, None, At}
-use Rattle.stretches.specs.Operators.{apply}
-use Rattle.stretches.specs.Table.{leafKind, chainKind}
-use Rattle.stretches.specs.Shown.{nothing, spanOf}
-use Rattle.stretches.specs.inner.Below.{eachKind, alone, chained}
+use Rattle.stretches.specs.Operators.{operatorOf, apply}
+use Rattle.stretches.specs.Table.{leafKind, chainKind, proofKind}
+use Rattle.stretches.specs.Shown.{nothing, proves, shownBelow, proven, spanning, Proved, spanOf}
+use Rattle.stretches.specs.inner.Below.{eachKind, byEndKind, alone, chained, byEnd}
 use Rattle.stretches.proofs.Fine.{AllFine}
-use Rattle.stretches.proofs.Shown.{EachIn, each-nothing, below-in, below-span}
+use Rattle.stretches.proofs.Shown.{EachIn, each-nothing, below-in, below-span, in-proved, has-proved}
 use Rattle.records.specs.declared.Line.{Line}
-use Rattle.pattern.specs.Kinds.{Symbol, Ev, Fr, Or, And, Row, Then, Less, Max, kindOf}
+use Rattle.pattern.specs.Kinds.{Symbol, Ev, Fr, Or, And, Row, Then, Less, Max, Inside, Outside, Holding, kindOf, firstOf}
 use Rattle.pattern.specs.Pattern.{Pattern, Patterns, Node, Nil, Cons, nodes, nodesOf, parts, partsOf}
 use Rattle.pattern.proofs.Forests.{length-parts}
 use Rattle.meaning.specs.Meaning.{Valuation, operator, eval, evals, overLines, answersOf}
-use Rattle.meaning.specs.Shown.{Shown, shows, below, shownFrom, shownAll, shown, numbersFrom, numbersBelow, isOperator, stretchAt, NodesFrom, Explains}
+use Rattle.meaning.specs.Shown.{Shown, shows, below, shownFrom, shownAll, shown, numbersFrom, numbersBelow, numbersSpanning, rootKind, ProofShown, isOperator, stretchAt, NodesFrom, Explains}
 use Rattle.meaning.proofs.Tree.{fine-evals, fine-leaf}
 use Rattle.meaning.proofs.Table.{nodes-some}
 
@@ -119,20 +120,42 @@ pub record ByKind (m : Stretch → ℕ) (h : Symbol) : Type 0 where
   pub is : operator m h ≡ some op
   pub one : alone op ≡ not (eachKind (kindOf h))
   pub chain : chained op ≡ chainKind (kindOf h)
+  pub byEnd : byEnd op ≡ byEndKind (kindOf h)
+  pub proven : proven op ≡ proofKind (kindOf h)
 
 pub by-kind : (m : Stretch → ℕ) (h : Symbol) → leafKind (kindOf h) ≡ false → ByKind m h
 by-kind m (Ev c l) e = let z : _≡_ {A = ℕ} 0 1 = cc in absurd (omega arith)
 by-kind m (Fr c l) e = let z : _≡_ {A = ℕ} 0 1 = cc in absurd (omega arith)
-by-kind m (Or n) e = record { op = _; is = refl; one = refl; chain = refl }
-by-kind m (And n) e = record { op = _; is = refl; one = refl; chain = refl }
-by-kind m (Row n) e = record { op = _; is = refl; one = refl; chain = refl }
-by-kind m (Then n) e = record { op = _; is = refl; one = refl; chain = refl }
-by-kind m Less e = record { op = _; is = refl; one = refl; chain = refl }
-by-kind m (Max k) e = record { op = _; is = refl; one = refl; chain = refl }
+by-kind m (Or n) e = record { op = _; is = refl; one = refl; chain = refl; byEnd = refl; proven = refl }
+by-kind m (And n) e = record { op = _; is = refl; one = refl; chain = refl; byEnd = refl; proven = refl }
+by-kind m (Row n) e = record { op = _; is = refl; one = refl; chain = refl; byEnd = refl; proven = refl }
+by-kind m (Then n) e = record { op = _; is = refl; one = refl; chain = refl; byEnd = refl; proven = refl }
+by-kind m Less e = record { op = _; is = refl; one = refl; chain = refl; byEnd = refl; proven = refl }
+by-kind m (Max k) e = record { op = _; is = refl; one = refl; chain = refl; byEnd = refl; proven = refl }
+by-kind m Inside e = record { op = _; is = refl; one = refl; chain = refl; byEnd = refl; proven = refl }
+by-kind m Outside e = record { op = _; is = refl; one = refl; chain = refl; byEnd = refl; proven = refl }
+by-kind m Holding e = record { op = _; is = refl; one = refl; chain = refl; byEnd = refl; proven = refl }
 
 -- what is shown of each operand of a node
 abbrev fronts : Valuation → Symbol → Patterns → Stretch → List Front
 fronts w h ps x = below (operator (w .measure) h) (evals w ps) x
+
+-- what makes the span, of nodes and of what is shown of them
+map-spans : {A B : Type 0} (f : A → B) (b : Bool) (l : List A) → map f (spanning b l) ≡ spanning b (map f l)
+map-spans f true l = sym (take-map f 1 l)
+map-spans f false l = refl
+
+-- `in` and `has`, numbers 7 and 9, show what proves the answer
+module _ (w : Valuation) (h : Symbol) (ps : Patterns) (x : Stretch) (i : In (x .start) (x .end) (eval w (Node h ps))) where
+  proof-of : (f : Stretch → Bool) (o : Op) → operator (w .measure) h ≡ some o → (In (x .start) (x .end) (answers o (evals w ps)) → Proved f (getD (shownBelow o (evals w ps) x) 1 None)) → Proved f (getD (fronts w h ps x) 1 None)
+  proof-of f o e g =
+      subst (λ (q : Option Op). Proved f (getD (below q (evals w ps) x) 1 None)) (sym e) (g (subst (λ (q : Option Op). In (x .start) (x .end) (apply q (w .leaf h) (evals w ps))) e i))
+
+  fronts-proof : ProofShown (kindOf h) x (fronts w h ps x)
+  fronts-proof = (
+    λ e. proof-of (proves op.Holder x) op.Inside (ap (λ (k : ℕ). operatorOf (w .measure) k (firstOf h)) e) (in-proved (evals w ps) x),
+    λ e. proof-of (proves op.Inner x) op.Holding (ap (λ (k : ℕ). operatorOf (w .measure) k (firstOf h)) e) (has-proved (evals w ps) x),
+  )
 
 module _ (w : Valuation) (n : ℕ) (leaves : (h : Symbol) → Fine n (w .leaf h)) (h : Symbol) (ps : Patterns) (x : Stretch) (i : In (x .start) (x .end) (eval w (Node h ps))) where
   fine : AllFine n (evals w ps)
@@ -146,11 +169,11 @@ module _ (w : Valuation) (n : ℕ) (leaves : (h : Symbol) → Fine n (w .leaf h)
       go none j = each-nothing (evals w ps)
       go (some o) j = below-in o (evals w ps) (fine .rising) (fine .sound) x j
 
-  -- and those of an operator span its answer
-  fronts-span : isOperator (Node h ps) ≡ true → spanOf (fronts w h ps x) ≡ At x
+  -- and those of an operator span its answer, but for what proves it
+  fronts-span : isOperator (Node h ps) ≡ true → spanOf (spanning (proofKind (kindOf h)) (fronts w h ps x)) ≡ At x
   fronts-span e =
       let o = by-kind (w .measure) h (not-true _ e) in
-      ap (λ (q : Option Op). spanOf (below q (evals w ps) x)) (o .is)
+      ap₂ (λ (b : Bool) (q : Option Op). spanOf (spanning b (below q (evals w ps) x))) (sym (o .proven)) (o .is)
       ∙ below-span (o .op) (evals w ps) (fine .rising) (fine .sound) x (subst (λ (q : Option Op). In (x .start) (x .end) (apply q (w .leaf h) (evals w ps))) (o .is) i)
 
 -- ── By the tree ──
@@ -198,10 +221,12 @@ module _ (w : Valuation) where
         (agrees-left f c m b l k (within-all m b ps gs (omega arith)) a c (omega arith) (omega (arith, nodes-some p)) ∙ at-own c p y)
         (at-operands m b ps gs (omega arith) (i .1) (agrees-right f c m b l k (within-from c m p y refl) a))
 
-    -- why y is given at node t, whose sub-pattern is q: it is one of q's list, and where q is an operator the span of what is given at its operands
+    -- why y is given at node t, whose sub-pattern is q: it is one of q's list, and where q is an operator the span of what is given at its operands; `in` and
+    -- `has` have what proves it instead of B's part in the span
     record Why (t : ℕ) (q : Pattern) (y : Stretch) : Type 0 where
       answer : In (y .start) (y .end) (eval w q)
-      span : isOperator q ≡ true → spanOf (map f (numbersBelow t q)) ≡ At y
+      span : isOperator q ≡ true → spanOf (map f (numbersSpanning t q)) ≡ At y
+      proof : ProofShown (rootKind q) y (map f (numbersBelow t q))
 
     module _ (n : ℕ) (leaves : (h : Symbol) → Fine n (w .leaf h)) where
       -- sub-pattern u of a pattern, or of operands, has number t
@@ -213,10 +238,12 @@ module _ (w : Valuation) where
             let k = shownAll w (suc v) ps gs in
             let z : At x ≡ At y = sym (at-first v t x k (omega arith)) ∙ sym (a t (omega arith) l) ∙ s in
             let same : x ≡ y = cc in
+            let number : map f (numbersFrom (suc t) ps) ≡ gs =
+            ap (λ (c : ℕ). map f (numbersFrom (suc c) ps)) (omega arith) ∙ at-operands (suc v) b ps gs (omega arith) (fronts-in w n leaves h ps x i) (agrees-rest f v b x k a) in
             record {
               answer = subst (λ (z : Stretch). In (z .start) (z .end) (eval w (Node h ps))) same i;
-              span = λ r. ap (λ (c : ℕ). spanOf (map f (numbersFrom (suc c) ps))) (omega arith)
-                  ∙ ap spanOf (at-operands (suc v) b ps gs (omega arith) (fronts-in w n leaves h ps x i) (agrees-rest f v b x k a)) ∙ fronts-span w n leaves h ps x i r ∙ z;
+              span = λ r. ap spanOf (map-spans f (proofKind (kindOf h)) (numbersFrom (suc t) ps) ∙ ap (spanning (proofKind (kindOf h))) number) ∙ fronts-span w n leaves h ps x i r ∙ z;
+              proof = subst (λ (gs : List Front). ProofShown (kindOf h) y gs) (sym number) (subst (λ (z : Stretch). ProofShown (kindOf h) z gs) same (fronts-proof w h ps x i));
             }
         why v b (Node h ps) x e i a t (suc u) d y q l s =
             let gs = fronts w h ps x in
@@ -267,4 +294,5 @@ module _ (p : Pattern) (ls : List Line) (x : Stretch) (i : In (x .start) (x .end
     rising = within-rising 0 (nodes p) (shown p ls x) (shown-within p ls x);
     answers = λ v y e. (node-below v y e, explained v y e .answer);
     spans = λ v y e. explained v y e .span;
+    proofs = λ v y e. explained v y e .proof;
   }

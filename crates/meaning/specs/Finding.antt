@@ -8,7 +8,7 @@ use lib.Dec.{eqb}
 use Rattle.stretches.specs.Stretch.{Stretch}
 use Rattle.stretches.specs.Filling.{written, moreAfter}
 use Rattle.pattern.specs.Reading.{Outcome, Accepts, Refuses, outcomeOf}
-use Rattle.meaning.specs.Meaning.{answersIn}
+use Rattle.meaning.specs.Meaning.{answersIn, Local}
 use Rattle.meaning.specs.Refusals.{refusal}
 use Rattle.meaning.specs.declared.Filled.{Filled}
 
@@ -16,6 +16,14 @@ use Rattle.meaning.specs.declared.Filled.{Filled}
 abbrev pub answersBy : Outcome → List ℕ → List Stretch
 answersBy (Accepts p) log = answersIn p log
 answersBy (Refuses n q) log = []
+
+-- the text spells a pattern without `in` and `out`, or none
+abbrev pub LocalBy : Outcome → Type 0
+LocalBy (Accepts p) = Local p
+LocalBy (Refuses n q) = Unit {0}
+
+abbrev pub LocalText : List ℕ → Type 0
+LocalText pattern = LocalBy (outcomeOf pattern)
 
 -- the answers where pattern and log are accepted; where they are refused, nothing
 unfoldable pub listOf : List ℕ → List ℕ → List Stretch

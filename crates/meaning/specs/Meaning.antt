@@ -10,13 +10,15 @@ use lib.Dec.{eqb}
 use Rattle.stretches.specs.Stretch as s
 use Rattle.stretches.specs.Stretch.{Stretch, st, Op, marks}
 use Rattle.stretches.specs.Operators.{operatorOf, apply}
-use Rattle.stretches.specs.Table.{kindAt, firstAt, secondAt, Given, listAt}
+use Rattle.stretches.specs.Table.{kindAt, firstAt, secondAt, holderKind, Given, listAt}
+use Rattle.stretches.specs.Run.{inRun}
 use Rattle.records.specs.declared.Record.{Record}
+use Rattle.records.specs.declared.Layout.the-variants.{One}
 use Rattle.records.specs.declared.Line.{Line}
 use Rattle.records.specs.declared.Line.the-variants.{Damaged, Sound}
 use Rattle.records.specs.Line.{says, soundLines}
 use Rattle.records.specs.Leaf.{codeIs, frameIs}
-use Rattle.pattern.specs.Kinds.{Symbol, Ev, Fr, Or, And, Row, Then, Less, Max, kindOf, firstOf, secondOf}
+use Rattle.pattern.specs.Kinds.{Symbol, Ev, Fr, Or, And, Row, Then, Less, Max, Inside, Outside, Holding, kindOf, firstOf, secondOf}
 use Rattle.pattern.specs.Pattern.{Pattern, Patterns, Node, Nil, Cons}
 
 -- which lines a leaf matches, by its kind and numbers: `ev,c,l`, kind 16, those with code c on lane l; `fr,f,l`, kind 17, those with frame f on lane l
@@ -31,8 +33,8 @@ abbrev pub operator : (Stretch → ℕ) → Symbol → Option Op
 operator m h = operatorOf m (kindOf h) (firstOf h)
 
 -- each symbol with its own operator or its own test
-ex-operators : (m : Stretch → ℕ) (n k c l : ℕ) → map (operator m) (Or n ∷ And n ∷ Row n ∷ Then n ∷ Less ∷ Max k ∷ Ev c l ∷ Fr c l ∷ [])
-    ≡ some s.Or ∷ some s.And ∷ some s.Row ∷ some s.Then ∷ some s.Less ∷ some (s.Max m k) ∷ none ∷ none ∷ []
+ex-operators : (m : Stretch → ℕ) (n k c l : ℕ) → map (operator m) (Or n ∷ And n ∷ Row n ∷ Then n ∷ Less ∷ Max k ∷ Inside ∷ Outside ∷ Holding ∷ Ev c l ∷ Fr c l ∷ [])
+    ≡ some s.Or ∷ some s.And ∷ some s.Row ∷ some s.Then ∷ some s.Less ∷ some (s.Max m k) ∷ some s.Inside ∷ some s.Outside ∷ some s.Holding ∷ none ∷ none ∷ []
 ex-operators m n k c l = refl
 
 ex-ev : (c l : ℕ) (x : Line) → matches (Ev c l) x ≡ codeIs c l x
@@ -78,6 +80,35 @@ answersOf p ls = eval (overLines ls) p
 -- and in a log
 abbrev pub answersIn : Pattern → List ℕ → List Stretch
 answersIn p log = answersOf p (says log)
+
+-- ── What lines outside a run may decide ──
+
+-- no `in` and no `out`, which look for a stretch of B that holds the answer and may reach out of the run
+abbrev mutual
+  pub Local : Pattern → Type 0
+  Local (Node h ps) = (holderKind (kindOf h) ≡ false) × Locals ps
+
+  pub Locals : Patterns → Type 0
+  Locals Nil = Unit {0}
+  Locals (Cons p ps) = Local p × Locals ps
+
+-- a line with this code
+abbrev coded : ℕ → Line
+coded c = Sound (record { layout = One; lane = 1; code = c; frame = 1; pins = 0 })
+
+-- between codes 8 and 9 line 1 lies in a stretch that has both; alone it lies in none
+abbrev practice : Pattern
+practice = Node (And 2) (Cons (Node (Ev 8 0) Nil) (Cons (Node (Ev 9 0) Nil) Nil))
+
+abbrev foul : Pattern
+foul = Node (Ev 7 0) Nil
+
+-- so the lines around a run of one line decide what `in` and `out` keep in it
+ex-in-breaks : (inRun 1 1 (answersOf (Node Inside (Cons foul (Cons practice Nil))) (coded 8 ∷ coded 7 ∷ coded 9 ∷ [])) ≡ st 0 0 ∷ []) × (answersOf (Node Inside (Cons foul (Cons practice Nil))) (coded 7 ∷ []) ≡ [])
+ex-in-breaks = (refl, refl)
+
+ex-out-breaks : (inRun 1 1 (answersOf (Node Outside (Cons foul (Cons practice Nil))) (coded 8 ∷ coded 7 ∷ coded 9 ∷ [])) ≡ []) × (answersOf (Node Outside (Cons foul (Cons practice Nil))) (coded 7 ∷ []) ≡ st 0 0 ∷ [])
+ex-out-breaks = (refl, refl)
 
 -- ── The same of a table of nodes, as a pattern is read into one ──
 

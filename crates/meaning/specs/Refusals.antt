@@ -33,17 +33,17 @@ longLog log = ltb 61440 (length log)
 -- 4, crowded: above 32 nodes: `ofTree` there
 -- 5, deep: above 8 deep: `ofTree` there
 
--- 6, miscalled: operator not 1 to 6; not 2 to 31 lists (less 2, max 1); k not 0, or for max not 1 to 65,535;
+-- 6, miscalled: operator not 1 to 9; not 2 to 31 lists (less, in, out and has 2, max 1); k not 0, or for max not 1 to 65,535;
 -- taking call for another operator or with fewer count cells than lists
 abbrev pub takesLists : ℕ → ℕ → Bool
-takesLists n lists = cond (eqb n 5) (eqb lists 2) (cond (eqb n 6) (eqb lists 1) (leb 2 lists && leb lists 31))
+takesLists n lists = cond (eqb n 6) (eqb lists 1) (cond (leb 5 n) (eqb lists 2) (leb 2 lists && leb lists 31))
 
 abbrev pub takesBound : ℕ → ℕ → Bool
 takesBound n k = cond (eqb n 6) (leb 1 k && leb k 65535) (eqb k 0)
 
 -- the filling call
 abbrev pub miscalled : ℕ → ℕ → List ℕ → Bool
-miscalled n k ends = not (leb 1 n && leb n 6) || (not (takesLists n (length ends)) || not (takesBound n k))
+miscalled n k ends = not (leb 1 n && leb n 9) || (not (takesLists n (length ends)) || not (takesBound n k))
 
 -- the taking call, for or and and
 abbrev pub miscalledTaking : ℕ → List ℕ → List ℕ → Bool

@@ -6,12 +6,12 @@ use mathlib.Core.List.{List, [], _∷_, _++_, map}
 use mathlib.Core.Option.{Option, none, some}
 use lib.ListN.{getD}
 use lib.Dec.{eqb}
-use Rattle.stretches.specs.Stretch.{Stretch, st, In, lengthOf, Op}
+use Rattle.stretches.specs.Stretch.{Stretch, st, In, lengthOf, Holder, Inner, Op}
 use Rattle.stretches.specs.Front.{Front, None, At}
-use Rattle.stretches.specs.Table.{leafKind}
-use Rattle.stretches.specs.Shown.{nothing, shownBelow, spanOf}
+use Rattle.stretches.specs.Table.{leafKind, proofKind}
+use Rattle.stretches.specs.Shown.{nothing, proves, shownBelow, spanning, Proved, spanOf}
 use Rattle.records.specs.declared.Line.{Line}
-use Rattle.pattern.specs.Kinds.{Ev, Or, And, Less, kindOf, firstOf}
+use Rattle.pattern.specs.Kinds.{Ev, Or, And, Less, Inside, kindOf, firstOf}
 use Rattle.pattern.specs.Pattern.{Pattern, Patterns, Node, Nil, Cons, nodes, parts}
 use Rattle.meaning.specs.Meaning.{Valuation, operator, eval, evals, overLines, answersOf}
 
@@ -50,6 +50,10 @@ shown p ls x = shownFrom (overLines ls) 0 p x
 
 -- ── What is proved of it: `shown-explains` of proofs/Shown.antt ──
 
+-- the kind of a pattern's first node
+abbrev pub rootKind : Pattern → ℕ
+rootKind (Node h ps) = kindOf h
+
 -- the sub-pattern of node v
 abbrev pub partAt : Pattern → ℕ → Pattern
 partAt p v = getD (parts p) v p
@@ -62,9 +66,17 @@ numbersFrom c (Cons p ps) = c ∷ numbersFrom (c + nodes p) ps
 abbrev pub numbersBelow : ℕ → Pattern → List ℕ
 numbersBelow v (Node h ps) = numbersFrom (suc v) ps
 
+-- and of those whose stretches make its span: of `in` and `has` the first alone, of every other operator all
+abbrev pub numbersSpanning : ℕ → Pattern → List ℕ
+numbersSpanning v p = spanning (proofKind (rootKind p)) (numbersBelow v p)
+
+-- what proves an answer x, by the kind, given what is shown of each operand: of `in` the second holds x, of `has` it lies inside x
+abbrev pub ProofShown : ℕ → Stretch → List Front → Type 0
+ProofShown k x fs = (k ≡ 7 → Proved (proves Holder x) (getD fs 1 None)) × (k ≡ 9 → Proved (proves Inner x) (getD fs 1 None))
+
 -- it is an operator
 abbrev pub isOperator : Pattern → Bool
-isOperator (Node h ps) = not (leafKind (kindOf h))
+isOperator p = not (leafKind (rootKind p))
 
 -- the stretch that is shown of node v; none where it took no part
 abbrev pub stretchAt : List Shown → ℕ → Front
@@ -84,8 +96,10 @@ pub record Explains (p : Pattern) (ls : List Line) (x : Stretch) (l : List Shown
   pub rising : NodesFrom 0 l
   -- each stretch is an answer of its own sub-pattern
   pub answers : (v : ℕ) (y : Stretch) → stretchAt l v ≡ At y → (v < nodes p) × In (y .start) (y .end) (answersOf (partAt p v) ls)
-  -- an operator's stretch is exactly the span of those shown directly below it
-  pub spans : (v : ℕ) (y : Stretch) → stretchAt l v ≡ At y → isOperator (partAt p v) ≡ true → spanOf (map (stretchAt l) (numbersBelow v (partAt p v))) ≡ At y
+  -- an operator's stretch is exactly the span of those shown directly below it, but for what `in` and `has` show of B
+  pub spans : (v : ℕ) (y : Stretch) → stretchAt l v ≡ At y → isOperator (partAt p v) ≡ true → spanOf (map (stretchAt l) (numbersSpanning v (partAt p v))) ≡ At y
+  -- that one proves the answer
+  pub proofs : (v : ℕ) (y : Stretch) → stretchAt l v ≡ At y → ProofShown (rootKind (partAt p v)) y (map (stretchAt l) (numbersBelow v (partAt p v)))
 
 -- ── An example ──
 
@@ -106,3 +120,10 @@ ex-shown = refl
 
 ex-numbers : numbersBelow 0 sample ≡ 1 ∷ 7 ∷ []
 ex-numbers = refl
+
+-- in,ev,7,0,and,2,ev,6,0,ev,9,0: what is shown of B comes with what B shows of it, and is not in the span
+abbrev enclosed : Pattern
+enclosed = Node Inside (Cons (Node (Ev 7 0) Nil) (Cons (Node (And 2) (Cons (Node (Ev 6 0) Nil) (Cons (Node (Ev 9 0) Nil) Nil))) Nil))
+
+ex-enclosed : (shownFrom leaves 0 enclosed (st 7 7) ≡ shows 0 (st 7 7) ∷ shows 1 (st 7 7) ∷ shows 2 (st 6 9) ∷ shows 3 (st 6 6) ∷ shows 4 (st 9 9) ∷ []) × (numbersSpanning 0 enclosed ≡ 1 ∷ [])
+ex-enclosed = (refl, refl)

@@ -2,7 +2,7 @@
 // rows: the table, in five columns of 32; the second has the sizes of the subtrees.
 ghost use mathlib.Core.Path.{_≡_};
 ghost use Prim.Native.Nat.{_<_, _≤_};
-ghost use Rattle.stretches.specs.Table.{leafKind, chainKind, nextOf, stopOf};
+ghost use Rattle.stretches.specs.Table.{leafKind, chainKind, proofKind, nextOf, stopOf};
 
 // The kinds of nodes: operators, by their numbers;
 pub const OR: usize = 1;
@@ -16,6 +16,12 @@ pub const THEN: usize = 4;
 pub const LESS: usize = 5;
 
 pub const MAX: usize = 6;
+
+pub const IN: usize = 7;
+
+pub const OUT: usize = 8;
+
+pub const HAS: usize = 9;
 
 // leaves of a pattern: lines by code and by frame;
 pub const EV: usize = 16;
@@ -59,6 +65,16 @@ pub fn is_chain(kind: usize) -> bool
         return true;
     }
     kind == THEN
+}
+
+// Whether this kind shows of B what proves an answer: `in` and `has`, which keep what one of B is found for.
+pub fn is_proof(kind: usize) -> bool
+    ensures { λ r. ⌜ r ≡ proofKind kind ⌝ }
+{
+    if kind == IN {
+        return true;
+    }
+    kind == HAS
 }
 
 // The sibling after c: past c, and at most 32; 32 where there is no node c.

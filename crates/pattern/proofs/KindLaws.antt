@@ -10,7 +10,7 @@ use lib.Seq.{drop-cons}
 use borrow.Author.Tests.{leb-true, ltb-true, not-true}
 use native.Mathlib.Numerals.{add-one}
 use native.Mathlib.Omega.{arith}
-use Rattle.pattern.specs.Kinds.{Symbol, Ev, Fr, Or, And, Row, Then, Less, Max, kindOf, numbers, firstOf, secondOf, thirdOf, Range, Operands, Fixed, Counted, Kind, from, kinds, noKind, find, kindIn, rowOf, kindBy, fieldCount, rangeAt, low, high, operandCount, arity, symbol, rank, AllInRange, Ranged}
+use Rattle.pattern.specs.Kinds.{Symbol, Ev, Fr, Or, And, Row, Then, Less, Max, Inside, Outside, Holding, kindOf, numbers, firstOf, secondOf, thirdOf, Range, Operands, Fixed, Counted, Kind, from, kinds, noKind, find, kindIn, rowOf, kindBy, fieldCount, rangeAt, low, high, operandCount, arity, symbol, rank, AllInRange, Ranged}
 use Rattle.pattern.specs.declared.State.the-variants.{Letters}
 use Rattle.pattern.specs.Automaton.{next, step, wordEnd, Scan, later, go, scan}
 use Rattle.basics.proofs.Basics.{cases, and-true}
@@ -223,6 +223,9 @@ fair-kinds =
     also by 4 refl (record { named = λ a b c. refl; numbered = λ a b c. refl; some = omega arith; walk = λ n w. refl })
     also by 5 refl (record { named = λ a b c. refl; numbered = λ a b c. refl; some = omega arith; walk = λ n w. refl })
     also by 6 refl (record { named = λ a b c. refl; numbered = λ a b c. refl; some = omega arith; walk = λ n w. refl })
+    also by 7 refl (record { named = λ a b c. refl; numbered = λ a b c. refl; some = omega arith; walk = λ n w. refl })
+    also by 8 refl (record { named = λ a b c. refl; numbered = λ a b c. refl; some = omega arith; walk = λ n w. refl })
+    also by 9 refl (record { named = λ a b c. refl; numbered = λ a b c. refl; some = omega arith; walk = λ n w. refl })
     also none
 
 -- and so any
@@ -246,3 +249,6 @@ of (Row a) = record { sound = fair (rowOf 3) (omega arith) .sound; again = refl 
 of (Then a) = record { sound = fair (rowOf 4) (omega arith) .sound; again = refl }
 of Less = record { sound = fair (rowOf 5) (omega arith) .sound; again = refl }
 of (Max a) = record { sound = fair (rowOf 6) (omega arith) .sound; again = refl }
+of Inside = record { sound = fair (rowOf 7) (omega arith) .sound; again = refl }
+of Outside = record { sound = fair (rowOf 8) (omega arith) .sound; again = refl }
+of Holding = record { sound = fair (rowOf 9) (omega arith) .sound; again = refl }

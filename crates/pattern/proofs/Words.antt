@@ -13,7 +13,7 @@ use native.Mathlib.Numerals.{add-one}
 use native.Mathlib.Omega.{arith}
 use Rattle.pattern.specs.Kinds.{Kind, kinds, kindIn, kindBy}
 use Rattle.pattern.specs.Automaton.{letterAt, alike, continues, next}
-use Rattle.basics.proofs.Basics.{and-true, le-or-lt, getD-past}
+use Rattle.basics.proofs.Basics.{and-true, and-false, le-or-lt, getD-past}
 use Rattle.pattern.proofs.KindLaws.{find-found, letter-plain, wordOf, fair}
 
 -- the first m letters of a row's word
@@ -28,15 +28,6 @@ onward r m = drop m (kindIn r .word)
 pub path-onward : (r m : ℕ) → r < length kinds → path r m ++ onward r m ≡ wordOf (kindIn r .number)
 unfolding path
 path-onward r m h = take-append-drop m (kindIn r .word) ∙ ap (λ (x : Kind). x .word) (sym (fair r h .back))
-
--- a conjunction whose right part fails
-pub and-false : (a b : Bool) → b ≡ false → a && b ≡ false
-and-false true b h = h
-and-false false b h = refl
-
--- and whose left part does
-pub false-and : (a b : Bool) → a ≡ false → a && b ≡ false
-false-and a b h = ap (λ (c : Bool). c && b) h
 
 -- one letter more of two words
 one-more : (r m : ℕ) (w : List ℕ) → m < length (kindIn r .word) → take m (kindIn r .word) ≡ take m w → letterAt (kindIn r .word) m ≡ letterAt w m → (length w ≤ m) ⊎ (m < length w)

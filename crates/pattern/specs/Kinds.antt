@@ -14,6 +14,7 @@ pub data Symbol : Type 0 where
   Or And Row Then : ℕ → Symbol
   Less : Symbol
   Max : ℕ → Symbol
+  Inside Outside Holding : Symbol
 
 -- a node's kind: an operator's number, 16 and 17 for the leaves; 0 is no node
 abbrev pub kindOf : Symbol → ℕ
@@ -25,6 +26,9 @@ kindOf (Row n) = 3
 kindOf (Then n) = 4
 kindOf Less = 5
 kindOf (Max k) = 6
+kindOf Inside = 7
+kindOf Outside = 8
+kindOf Holding = 9
 
 -- the numbers that follow the word
 abbrev pub numbers : Symbol → List ℕ
@@ -36,6 +40,9 @@ numbers (Row n) = n ∷ []
 numbers (Then n) = n ∷ []
 numbers Less = []
 numbers (Max k) = k ∷ []
+numbers Inside = []
+numbers Outside = []
+numbers Holding = []
 
 -- the first of them: code, frame, number of operands or k; 0 where there is none
 abbrev pub firstOf : Symbol → ℕ
@@ -77,7 +84,8 @@ from a b = record { least = a; most = b }
 abbrev pub kind : ℕ → List ℕ → List Range → Operands → (ℕ → ℕ → ℕ → Symbol) → Kind
 kind k w rs o f = record { number = k; word = w; ranges = rs; operands = o; make = f }
 
--- ev,c,l  fr,f,l  or,n,..  and,n,..  row,n,..  then,n,..  less,A,B  max,k,A; that symbols and rows agree is proved once (`fair-kinds`)
+-- ev,c,l  fr,f,l  or,n,..  and,n,..  row,n,..  then,n,..  less,A,B  max,k,A  in,A,B  out,A,B  has,A,B:
+-- that symbols and rows agree is proved once (`fair-kinds`)
 abbrev pub kinds : List Kind
 kinds =
     kind 16 (101 ∷ 118 ∷ []) (from 1 255 ∷ from 0 99 ∷ []) (Fixed 0) (λ a b c. Ev a b)
@@ -88,6 +96,9 @@ kinds =
     ∷ kind 4 (116 ∷ 104 ∷ 101 ∷ 110 ∷ []) (from 2 31 ∷ []) Counted (λ a b c. Then a)
     ∷ kind 5 (108 ∷ 101 ∷ 115 ∷ 115 ∷ []) [] (Fixed 2) (λ a b c. Less)
     ∷ kind 6 (109 ∷ 97 ∷ 120 ∷ []) (from 1 65535 ∷ []) (Fixed 1) (λ a b c. Max a)
+    ∷ kind 7 (105 ∷ 110 ∷ []) [] (Fixed 2) (λ a b c. Inside)
+    ∷ kind 8 (111 ∷ 117 ∷ 116 ∷ []) [] (Fixed 2) (λ a b c. Outside)
+    ∷ kind 9 (104 ∷ 97 ∷ 115 ∷ []) [] (Fixed 2) (λ a b c. Holding)
     ∷ []
 
 -- what stands for a kind where there is none

@@ -1,5 +1,7 @@
 // The kinds of symbols: their words in the list's order, and what follows each word.
 ghost use mathlib.Core.Path.{_≡_};
+ghost use mathlib.Core.Bool.{false};
+ghost use mathlib.Core.List.{[], _∷_};
 ghost use Prim.Native.Nat.{_≤_, _<_};
 ghost use lib.ListN.{length};
 ghost use Rattle.pattern.specs.Kinds.{kinds, kindIn, kindBy, fieldCount, low, high, arity};
@@ -8,17 +10,20 @@ ghost use Rattle.pattern.specs.Automaton.{letterAt, alike, next, live};
 use nodes::AND;
 use nodes::EV;
 use nodes::FR;
+use nodes::HAS;
+use nodes::IN;
 use nodes::LESS;
 use nodes::MAX;
 use nodes::OR;
+use nodes::OUT;
 use nodes::ROW;
 use nodes::THEN;
 
 // The number of kinds.
-pub(crate) const KINDS: usize = 8;
+pub(crate) const KINDS: usize = 11;
 
 // The kinds in the list's order.
-const NUMBER: [usize; KINDS] = [EV, FR, OR, AND, ROW, THEN, LESS, MAX];
+const NUMBER: [usize; KINDS] = [EV, FR, OR, AND, ROW, THEN, LESS, MAX, IN, OUT, HAS];
 
 // Their words, filled up with commas.
 const WORD: [[u8; 4]; KINDS] = [
@@ -30,6 +35,9 @@ const WORD: [[u8; 4]; KINDS] = [
     [b't', b'h', b'e', b'n'],
     [b'l', b'e', b's', b's'],
     [b'm', b'a', b'x', b','],
+    [b'i', b'n', b',', b','],
+    [b'o', b'u', b't', b','],
+    [b'h', b'a', b's', b','],
 ];
 
 // How many numbers follow a word, the least and the greatest value of each, whether the first of them is the number of operands, and how many
@@ -119,6 +127,13 @@ fn made(
     }
 }
 
+// Two operands and no numbers.
+fn pair() -> Shape
+    ensures { λ r. ⌜ r ≡ shaped 0 (0 ∷ 0 ∷ 0 ∷ []) (0 ∷ 0 ∷ 0 ∷ []) false 2 ⌝ }
+{
+    made(0, [0, 0, 0], [0, 0, 0], false, 2)
+}
+
 // What follows the word of a kind, a row a kind; nothing where no kind has the number. Branches, since a constant table is laid out anew at each reading.
 fn shape_of(kind: usize) -> Shape
     ensures { λ r. ⌜ r ≡ shapeOf (kindBy kind) ⌝ }
@@ -142,10 +157,19 @@ fn shape_of(kind: usize) -> Shape
         return made(1, [2, 0, 0], [31, 0, 0], true, 0);
     }
     if kind == LESS {
-        return made(0, [0, 0, 0], [0, 0, 0], false, 2);
+        return pair();
     }
     if kind == MAX {
         return made(1, [1, 0, 0], [65535, 0, 0], false, 1);
+    }
+    if kind == IN {
+        return pair();
+    }
+    if kind == OUT {
+        return pair();
+    }
+    if kind == HAS {
+        return pair();
     }
     made(0, [0, 0, 0], [0, 0, 0], false, 0)
 }

@@ -1,5 +1,5 @@
 // Reads patterns and writes a line for each: `A,0,nodes` where it is accepted, else `R,number,place`; of the last pattern instead the entries of its
-// table, a line for each of seven nodes. What it must write was derived from the rules of docs/FORMATS.md, not by this program.
+// table, a line for each of 13 nodes and one past them. What it must write was derived from the rules of docs/FORMATS.md, not by this program.
 //
 // The patterns stand in standard input, each with a semicolon and a line feed behind it; a line feed before the semicolon is the pattern's own.
 use libc::STDIN_FILENO;
@@ -58,7 +58,7 @@ fn entries(text: &[u8]) {
     let r = pattern::read(text);
     let rows = r.table.rows;
     let mut v = 0;
-    while v < 7 {
+    while v < 14 {
         row(rows, v);
         v += 1;
     }

@@ -173,7 +173,7 @@ module _ (src : Source) (rows : List ℕ) (ps : List Stretch) (good : Good src r
   low : Lying l
   low = answers-lie src rows good
 
-  pub pass-start : {r : Front} → r ≡ nextOf 0 noneF ps → Pass src rows ps (replicate 128 0) noneF r 0
+  pub pass-start : {r : Front} → r ≡ nextOf 0 noneF ps → Pass src rows ps (replicate 192 0) noneF r 0
   pass-start {r} e = record {
     within = omega arith;
     ready = ready-none src rows;

@@ -1,20 +1,17 @@
--- A front is the first of what is left from its line on; so what `first` hands out is what was sought. One law for each return. Assumes nothing.
+-- A front is the first of what is left from its line on; so what `first` hands out, and `first_to`, is what was sought. One law for each return. Assumes nothing.
 use mathlib.Core.Path.{_≡_, refl, sym, ap, subst, _∙_}
-use mathlib.Core.Bool.{false}
 use mathlib.Core.List.{List, [], _∷_}
 use Prim.Native.Nat.{ℕ, suc, _+_, _≤_, _<_}
 use native.Mathlib.Omega.{arith}
-use borrow.Author.Tests.{lt-leb}
 use Rattle.stretches.specs.Stretch.{Stretch, st, Fine}
-use Rattle.stretches.specs.Front.{None, At, firstFrom, onward}
+use Rattle.stretches.specs.Front.{None, At, firstFrom, firstTo, onward}
 use Rattle.stretches.specs.Front as fronts
-use Rattle.stretches.specs.inner.Below.{endsBy}
 use Rattle.stretches.proofs.Fronts.{front-good}
 use Rattle.stretches.proofs.Steps.{onward-none, onward-at}
 use Rattle.seek.specs.declared.Front.{Front}
 use Rattle.seek.specs.Source.{Source, listOver, Good}
-use Rattle.seek.specs.First.{atF, noneF, front, first, Ready, FirstOf, Ahead}
-use Rattle.seek.specs.inner.Looks.{Sought}
+use Rattle.seek.specs.First.{atF, noneF, front, first, reach, Ready, FirstOf, ReachOf, Ahead}
+use Rattle.seek.specs.inner.Looks.{Sought, Reached}
 use Rattle.seek.proofs.Nodes.{fine}
 
 -- ── A front and what is left ──
@@ -73,20 +70,16 @@ pub first-front : {src : Source} {rows s s' : List ℕ} {v t : ℕ} {f : Front} 
 unfolding first
 first-front g good rdy lv = g .finds lv good rdy .is
 
--- a front that ends behind x is none that ends by it; any other is a stretch
-pub front-past : (l : List Stretch) (t : ℕ) (x : Stretch) (f : Front) → f ≡ front (firstFrom l t) → x .end < f .end → endsBy x (firstFrom l t) ≡ false
-front-past l t x f e h = go (firstFrom l t) e
-  where
-    go : (g : fronts.Front) → f ≡ front g → endsBy x g ≡ false
-    go None k = refl
-    go (At y) k = lt-leb (y .end) (x .end) (omega (arith, ap (λ (f : Front). f .end) k))
+-- and what `first_to` finds its first to a line
+pub reach-front : {src : Source} {rows s s' : List ℕ} {v e : ℕ} {f : Front} → ReachOf src rows s v e f s' → Good src rows → Ready src rows s → v < 32 → f ≡ front (firstTo (listOver src rows v) e)
+unfolding reach
+reach-front g good rdy lv = g .finds lv good rdy .is
 
-pub front-by : (l : List Stretch) (t : ℕ) (x : Stretch) (f : Front) → f ≡ front (firstFrom l t) → f .end ≤ x .end → x .end < 65536 → firstFrom l t ≡ At (st (f .start) (f .end))
-front-by l t x f e h b = go (firstFrom l t) e
-  where
-    go : (g : fronts.Front) → f ≡ front g → g ≡ At (st (f .start) (f .end))
-    go None k = absurd (omega (arith, ap (λ (f : Front). f .end) k))
-    go (At y) k = sym (ap (λ (f : Front). At (st (f .start) (f .end))) k)
+pub reach-handed : {src : Source} {rows s : List ℕ} {v e : ℕ} {r : Front} {s' : List ℕ} → v < 32 → Reached src rows s v e r s' → ReachOf src rows s v e r s'
+reach-handed lv g = record { finds = λ h good rdy. g .found good rdy; outside = λ h. absurd (omega arith) }
+
+pub reach-outside : {src : Source} {rows s : List ℕ} {v e : ℕ} {r : Front} → 32 ≤ v → r ≡ noneF → ReachOf src rows s v e r s
+reach-outside ge e = record { finds = λ lv good rdy. absurd (omega arith); outside = λ h. (e, refl) }
 
 -- ── A step over node 0's stretches ──
 

@@ -83,7 +83,7 @@ resume-at {items} {lo} {hi} {t} {c} a b e p = record { step = (c - lo) / 2; is =
 pub hinted-same : {s : List ℕ} → Hinted s s
 hinted-same = record { wide = refl; same = λ j lt. refl }
 
-pub hinted-set : (s : List ℕ) (i x : ℕ) → 96 ≤ i → Hinted s (set s i x)
+pub hinted-set : (s : List ℕ) (i x : ℕ) → 160 ≤ i → Hinted s (set s i x)
 hinted-set s i x le = record { wide = simp length-set; same = λ j lt. let w : j ≢ i = λ e. omega arith in rw getD-set-other }
 
 -- a list that lies inside the items, and one that does not

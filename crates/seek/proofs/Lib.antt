@@ -8,3 +8,4 @@ pub mod State
 pub mod Turns
 pub mod Searches
 pub mod Ahead
+pub mod Reaching

@@ -5,22 +5,24 @@ use mathlib.Core.List.{List, [], _∷_}
 use Prim.Native.Nat.{ℕ, suc, _+_, _≤_, _<_, min, max}
 use native.Mathlib.Omega.{arith}
 use lib.Dec.{leb, ltb, eqb}
-use borrow.Author.Tests.{ltb-false, lt-ltb, eqb-true, eqb-false}
-use Rattle.stretches.specs.Stretch.{Stretch, st, In, Fine, low, high, keep, containsNone, atMost, Op, And, Row, Then, answers}
-use Rattle.stretches.specs.Front.{None, At, firstFrom}
+use borrow.Author.Tests.{leb-true, leb-false, ltb-false, lt-ltb, le-ltb, eqb-true, eqb-false}
+use Rattle.stretches.specs.Stretch.{Stretch, st, In, Fine, low, high, keep, containsNone, liesInNone, Op, And, Row, Then, answers}
+use Rattle.stretches.specs.Front.{None, At, firstFrom, firstTo}
 use Rattle.stretches.specs.Front as fronts
+use Rattle.stretches.specs.Table.{holderKind}
 use Rattle.basics.proofs.Basics.{cases}
 use Rattle.stretches.proofs.Answers.{AllRising, AllSound, high-first}
 use Rattle.stretches.proofs.Fronts.{FirstIs, front-good, FrontsAt}
 use Rattle.stretches.proofs.Fine.{AllFine, first-fine, rest-fine}
-use Rattle.stretches.proofs.Steps.{keep-none, keep-taken, keep-left, clear, holds-none-front}
+use Rattle.stretches.proofs.Steps.{keep-none, keep-taken, keep-left}
 use Rattle.stretches.proofs.Ordered.{ChainAt, RowAt, row-taken, row-left, first-self}
+use Rattle.stretches.specs.inner.Below.{onlyIf}
+use Rattle.stretches.proofs.Held.{absent, holds-none-found, inside-none-found}
 use Rattle.stretches.proofs.Tight.{Gone, Tight, gone-front, and-tight, and-gone, then-tight, then-gone, row-gone}
 use Rattle.seek.specs.declared.Front.{Front}
-use Rattle.seek.specs.Source.{Source, measured}
 use Rattle.seek.specs.First.{atF, noneF, front}
 use Rattle.seek.specs.inner.Fronts.{pastOf, badF, kept, goF}
-use Rattle.seek.specs.inner.Looks.{spanFrom, chainFrom, clears}
+use Rattle.seek.specs.inner.Looks.{spanFrom, chainFrom, misses}
 
 none-at : (x : Stretch) → None ≡ At x → ⊥
 none-at x e = let z : _≡_ {A = ℕ} 0 1 = cc in omega arith
@@ -212,7 +214,7 @@ module _ (l : List Stretch) (ls : List (List Stretch)) (f : AllFine 65536 (l ∷
           subst (SkipLook (answers Row (l ∷ ls)) t) (sym i) (k-bad lt refl (z .1) (row-left l ls (f .rising) (f .sound) t x e (λ w h. n w (h .2))))
 
 -- a test on the stretches of l, and how the machine tells that it passes
-keep-look : (test : Stretch → Bool) (mark : Front → Bool) (l : List Stretch) → Fine 65536 l
+pub keep-look : (test : Stretch → Bool) (mark : Front → Bool) (l : List Stretch) → Fine 65536 l
     → ((x : Stretch) → In (x .start) (x .end) l → mark (atF (x .start) (x .end)) ≡ test x) → (t : ℕ) → SkipLook (keep test l) t (goF (front (firstFrom l t)) (λ x. kept x (mark x)))
 keep-look test mark l f m t =
     go-front (SkipLook (keep test l) t) l f t (λ x. kept x (mark x)) (λ e. k-none (keep-none test l (f .rising) t e))
@@ -226,17 +228,29 @@ keep-look test mark l f m t =
 
 -- ── The tests of the filters ──
 
-clear-is : (ls : List (List Stretch)) → AllRising ls → (s e : ℕ) → e < 65536 → clears ls (atF s e) ≡ containsNone ls (st s e)
-clear-is [] r s e lt = refl
-clear-is (b ∷ bs) r s e lt = go (firstFrom b s) ∙ sym (holds-none-front b (r .0) (st s e))
+lt-not-le : (a b : ℕ) → ltb a b ≡ not (leb b a)
+lt-not-le a b = cases (leb b a) (λ c. ltb a b ≡ not c) (λ k. le-ltb a b (leb-true b a k)) (λ k. lt-ltb a b (leb-false b a k))
+
+absent-if : (y : Stretch) (b : Bool) → not b ≡ absent (cond b (At y) None)
+absent-if y true = refl
+absent-if y false = refl
+
+-- none of B lies inside the front
+pub inner-missed : (k : ℕ) → holderKind k ≡ false → (ls : List (List Stretch)) → AllRising ls → (x : Stretch) → x .end < 65536 → misses k ls (atF (x .start) (x .end)) ≡ containsNone ls x
+inner-missed k h [] r x lt = refl
+inner-missed k h (b ∷ bs) r x lt =
+    ap (λ (c : Bool). cond c (ltb (x .start) (front (firstTo b (x .end)) .start)) (ltb (x .end) (front (firstFrom b (x .start)) .end))) h ∙ go (firstFrom b (x .start)) ∙ sym (holds-none-found b (r .0) x)
   where
-    go : (g : fronts.Front) → ltb e (front g .end) ≡ clear g e
-    go None = lt-ltb e 65536 lt
-    go (At y) = refl
+    go : (g : fronts.Front) → ltb (x .end) (front g .end) ≡ absent (onlyIf (λ y. leb (y .end) (x .end)) g)
+    go None = lt-ltb (x .end) 65536 lt
+    go (At y) = lt-not-le (x .end) (y .end) ∙ absent-if y (leb (y .end) (x .end))
 
-module _ (src : Source) (k : ℕ) (a : List Stretch) (ls : List (List Stretch)) (f : AllFine 65536 (a ∷ ls)) (t : ℕ) where
-  pub less-look : SkipLook (keep (containsNone ls) a) t (goF (front (firstFrom a t)) (λ x. kept x (clears ls x)))
-  less-look = keep-look (containsNone ls) (clears ls) a (first-fine f) (λ x m. clear-is ls (f .rising .1) (x .start) (x .end) (f .below .0 (x .start) (x .end) m)) t
-
-  pub max-look : SkipLook (keep (atMost (measured src) k ls) a) t (goF (front (firstFrom a t)) (λ x. kept x (leb (measured src (st (x .start) (x .end))) k)))
-  max-look = keep-look (atMost (measured src) k ls) (λ x. leb (measured src (st (x .start) (x .end))) k) a (first-fine f) (λ x m. refl) t
+-- none of B holds it
+pub holder-missed : (k : ℕ) → holderKind k ≡ true → (ls : List (List Stretch)) → AllRising ls → (x : Stretch) → x .start < 65536 → misses k ls (atF (x .start) (x .end)) ≡ liesInNone ls x
+holder-missed k h [] r x lt = refl
+holder-missed k h (b ∷ bs) r x lt =
+    ap (λ (c : Bool). cond c (ltb (x .start) (front (firstTo b (x .end)) .start)) (ltb (x .end) (front (firstFrom b (x .start)) .end))) h ∙ go (firstTo b (x .end)) ∙ sym (inside-none-found b (r .0) x 0)
+  where
+    go : (g : fronts.Front) → ltb (x .start) (front g .start) ≡ absent (onlyIf (λ y. leb (y .start) (x .start)) g)
+    go None = lt-ltb (x .start) 65536 lt
+    go (At y) = lt-not-le (x .start) (y .start) ∙ absent-if y (leb (y .start) (x .start))

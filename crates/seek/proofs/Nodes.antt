@@ -1,13 +1,13 @@
 -- What a node of the table stands for, by its kind, and what a seek from any line finds of it. Assumes nothing.
 use mathlib.Core.Path.{_≡_, refl, sym, ap, subst, _∙_}
 use mathlib.Core.Logic.{_⊎_, inl, inr}
-use mathlib.Core.Bool.{cond}
+use mathlib.Core.Bool.{Bool, not, cond}
 use mathlib.Core.List.{List, [], _∷_}
 use Prim.Native.Nat.{ℕ, _+_, _≤_, _<_}
 use native.Mathlib.Omega.{arith}
 use lib.Dec.{eqb}
 use borrow.Author.Tests.{ne-eqb}
-use Rattle.stretches.specs.Stretch.{Stretch, Fine, Op, answers, marks}
+use Rattle.stretches.specs.Stretch.{Stretch, Fine, keep, keepFirst, containsNone, containsSome, liesInNone, liesInSome, atMost, Op, answers, marks}
 use Rattle.stretches.specs.Operators.{operatorOf, apply}
 use Rattle.stretches.specs.Front.{None, At, firstFrom}
 use Rattle.stretches.specs.Table.{kindAt, firstAt, secondAt, stopOf}
@@ -16,15 +16,17 @@ use Rattle.stretches.specs.Stretch as op
 use Rattle.stretches.specs.Front as fronts
 use Rattle.stretches.proofs.Answers.{Cand, cand-sound}
 use Rattle.stretches.proofs.InRun.{cand-below}
-use Rattle.stretches.proofs.Fine.{AllFine}
+use Rattle.stretches.proofs.Fine.{AllFine, first-fine, rest-fine}
 use Rattle.stretches.proofs.Fronts.{FirstIs, first-good, first-is, first-none}
 use Rattle.stretches.proofs.Operators.{no-operator}
 use Rattle.stretches.proofs.Table.{list-node, all-operands, fine-list}
 use Rattle.marks.specs.Row.{row}
 use Rattle.seek.specs.Source.{Source, measured, lent, ownList, given, listOver, Good}
-use Rattle.seek.specs.First.{noneF, front, first}
-use Rattle.seek.specs.inner.Looks.{lookBy, look, Narrows, Skips}
-use Rattle.seek.proofs.Looks.{TightLook, t-none, SkipLook, k-none, and-look, then-look, row-look, less-look, max-look}
+use Rattle.seek.specs.First.{atF, noneF, front, first}
+use Rattle.seek.specs.inner.Fronts.{kept, goF}
+use Rattle.seek.specs.inner.Looks.{passes, lookBy, look, Narrows, Skips}
+use Rattle.seek.proofs.Shapes.{filter-kind}
+use Rattle.seek.proofs.Looks.{TightLook, t-none, SkipLook, k-none, and-look, then-look, row-look, keep-look, inner-missed, holder-missed}
 
 -- ── Fronts ──
 
@@ -78,7 +80,7 @@ module _ (src : Source) (rows : List ℕ) (v : ℕ) (lv : v < 32) where
   or-list e = by-kind 1 e
 
   -- a kind that no list and no operator has
-  pub no-list : (kindAt rows v ≡ 0) ⊎ (6 < kindAt rows v) → (kindAt rows v ≡ 16 → ⊥) → (kindAt rows v ≡ 17 → ⊥) → listOver src rows v ≡ []
+  pub no-list : (kindAt rows v ≡ 0) ⊎ (9 < kindAt rows v) → (kindAt rows v ≡ 16 → ⊥) → (kindAt rows v ≡ 17 → ⊥) → listOver src rows v ≡ []
   no-list (inl e) a b = by-kind 0 e
   no-list (inr h) a b =
       by-kind (kindAt rows v) refl
@@ -139,13 +141,15 @@ module _ (src : Source) (rows : List ℕ) (good : Good src rows) (v : ℕ) (lv :
   row-skip-look [] f t = k-none refl
   row-skip-look (l ∷ ls) f t = row-look l ls f t
 
-  less-skip-look : (ls : List (List Stretch)) → AllFine 65536 ls → (t : ℕ) → SkipLook (answers op.Less ls) t (lookBy src 5 (firstAt rows v) ls t)
-  less-skip-look [] f t = k-none refl
-  less-skip-look (l ∷ ls) f t = less-look src (firstAt rows v) l ls f t
-
-  max-skip-look : (ls : List (List Stretch)) → AllFine 65536 ls → (t : ℕ) → SkipLook (answers (op.Max (measured src) (firstAt rows v)) ls) t (lookBy src 6 (firstAt rows v) ls t)
-  max-skip-look [] f t = k-none refl
-  max-skip-look (l ∷ ls) f t = max-look src (firstAt rows v) l ls f t
+  -- a filter's, by its test
+  filter-skip-look : (k : ℕ) (test : List (List Stretch) → Stretch → Bool) → ((t : ℕ) → lookBy src k (firstAt rows v) [] t ≡ noneF)
+      → ((l : List Stretch) (ls : List (List Stretch)) (t : ℕ) → lookBy src k (firstAt rows v) (l ∷ ls) t ≡ goF (front (firstFrom l t)) (λ x. kept x (passes src k (firstAt rows v) ls x)))
+      → ((ls : List (List Stretch)) → AllFine 65536 ls → (x : Stretch) → x .start < 65536 → x .end < 65536 → passes src k (firstAt rows v) ls (atF (x .start) (x .end)) ≡ test ls x)
+      → (ls : List (List Stretch)) → AllFine 65536 ls → (t : ℕ) → SkipLook (keepFirst test ls) t (lookBy src k (firstAt rows v) ls t)
+  filter-skip-look k test none one is [] f t = subst (SkipLook [] t) (sym (none t)) (k-none refl)
+  filter-skip-look k test none one is (l ∷ ls) f t =
+      subst (SkipLook (keep (test ls) l) t) (sym (one l ls t)) (keep-look (test ls) (passes src k (firstAt rows v) ls) l (first-fine f)
+      (λ x m. let lt = f .below .0 (x .start) (x .end) m in is ls (rest-fine f) x (omega (arith, f .sound .0 (x .start) (x .end) m)) lt) t)
 
   skipping-by : (k : ℕ) → kindAt rows v ≡ k → ((ls : List (List Stretch)) → AllFine 65536 ls → (t : ℕ)
       → SkipLook (apply (operatorOf (measured src) k (firstAt rows v)) (ownList src k (firstAt rows v) (secondAt rows v)) ls) t (lookBy src k (firstAt rows v) ls t))
@@ -157,5 +161,9 @@ module _ (src : Source) (rows : List ℕ) (good : Good src rows) (v : ℕ) (lv :
 
   pub skipping : Skips (kindAt rows v) → (t : ℕ) → SkipLook (listOver src rows v) t (look src rows v t)
   skipping (inl k) = skipping-by 3 k row-skip-look
-  skipping (inr (inl k)) = skipping-by 5 k less-skip-look
-  skipping (inr (inr k)) = skipping-by 6 k max-skip-look
+  skipping (inr h) = filter-kind (λ k. kindAt rows v ≡ k → (t : ℕ) → SkipLook (listOver src rows v) t (look src rows v t)) (kindAt rows v) (h .0) (h .1)
+      (λ e. skipping-by 5 e (filter-skip-look 5 containsNone (λ t. refl) (λ l ls t. refl) (λ ls f x s b. inner-missed 5 refl ls (f .rising) x b)))
+      (λ e. skipping-by 6 e (filter-skip-look 6 (atMost (measured src) (firstAt rows v)) (λ t. refl) (λ l ls t. refl) (λ ls f x s b. refl)))
+      (λ e. skipping-by 7 e (filter-skip-look 7 liesInSome (λ t. refl) (λ l ls t. refl) (λ ls f x s b. ap not (holder-missed 7 refl ls (f .rising) x s))))
+      (λ e. skipping-by 8 e (filter-skip-look 8 liesInNone (λ t. refl) (λ l ls t. refl) (λ ls f x s b. holder-missed 8 refl ls (f .rising) x s)))
+      (λ e. skipping-by 9 e (filter-skip-look 9 containsSome (λ t. refl) (λ l ls t. refl) (λ ls f x s b. ap not (inner-missed 9 refl ls (f .rising) x b)))) refl

@@ -119,7 +119,7 @@ pub advance-start : {src : Source} {rows s : List ℕ} {v t : ℕ} {best : Front
 advance-start {t = t} e = record { at = λ good rdy. (rdy, λ w. subst (λ (f : Front). Narrowed w t f t) (sym e) n-start, λ k. (e, refl)) }
 
 -- what is found, by the kind
-found-by : {src : Source} {rows s s' : List ℕ} {v t : ℕ} {r : Front} → v < 32 → 1 < kindAt rows v → kindAt rows v < 7
+found-by : {src : Source} {rows s s' : List ℕ} {v t : ℕ} {r : Front} → v < 32 → 1 < kindAt rows v → kindAt rows v < 10
     → (Good src rows → Ready src rows s → Ready src rows s' × (Narrows (kindAt rows v) → Narrowing src rows v → r ≡ first src rows v t) × (Skips (kindAt rows v) → r ≡ first src rows v t))
     → Sought src rows s v t r s'
 found-by {src} {rows} {v = v} lv some few h = record {
@@ -127,7 +127,7 @@ found-by {src} {rows} {v = v} lv some few h = record {
 }
 
 module _ {src : Source} {rows s : List ℕ} {v t : ℕ} {s₁ : List ℕ} {best : Front} {from : ℕ} (lv : v < 32) (some : 1 < kindAt rows v) (inv : AdvanceInv src rows s v t s₁ best from) where
-  pub advance-out : 65536 ≤ from → kindAt rows v < 7 → Sought src rows s v t best s₁
+  pub advance-out : 65536 ≤ from → kindAt rows v < 10 → Sought src rows s v t best s₁
   advance-out ge few = found-by lv some few (λ good rdy.
       let i = inv .at good rdy in (
         i .0,
@@ -148,7 +148,7 @@ module _ {src : Source} {rows s : List ℕ} {v t : ℕ} {s₁ : List ℕ} {best 
           λ k. (subst (SkipLook (listOver src rows v) from) (sym (g .is)) (skipping src rows good v lv k from), i .2 k .0, i .2 k .1),
         )
 
-    pub advance-gone : 65536 ≤ a .start → kindAt rows v < 7 → Sought src rows s v t best s'
+    pub advance-gone : 65536 ≤ a .start → kindAt rows v < 10 → Sought src rows s v t best s'
     advance-gone n few = found-by lv some few (λ good rdy.
         let i = advance-at good rdy in (
           i .0,
@@ -156,7 +156,7 @@ module _ {src : Source} {rows s : List ℕ} {v t : ℕ} {s₁ : List ℕ} {best 
           λ k. i .2 k .1 ∙ skip-none src rows v from (i .2 k .0) n ∙ i .2 k .2,
         ))
 
-    pub advance-past : best .end < a .end → kindAt rows v < 7 → Sought src rows s v t best s'
+    pub advance-past : best .end < a .end → kindAt rows v < 10 → Sought src rows s v t best s'
     advance-past gt few = found-by lv some few (λ good rdy.
         let i = advance-at good rdy in (
           i .0,
@@ -164,7 +164,7 @@ module _ {src : Source} {rows s : List ℕ} {v t : ℕ} {s₁ : List ℕ} {best 
           λ k. let z : best .end ≡ 65536 = ap (λ (f : Front). f .end) (i .2 k .1) in absurd (omega (arith, skip-small src rows v from (i .2 k .0))),
         ))
 
-    pub advance-good : (Narrows (kindAt rows v) → ⊥) → a .end < 65536 → kindAt rows v < 7 → Sought src rows s v t a s'
+    pub advance-good : (Narrows (kindAt rows v) → ⊥) → a .end < 65536 → kindAt rows v < 10 → Sought src rows s v t a s'
     advance-good ne lt few = found-by lv some few (λ good rdy.
         let i = advance-at good rdy in (i .0, λ k w. absurd (ne k), λ k. skip-keep src rows v from (i .2 k .0) lt ∙ i .2 k .2))
 
@@ -173,7 +173,7 @@ module _ {src : Source} {rows s : List ℕ} {v t : ℕ} {s₁ : List ℕ} {best 
       advance-onward k h = skip-next src rows v from h one (⊎-elim (λ n. absurd (apart (kindAt rows v) n k)) (λ (z : 65536 ≤ a .end). z) no-good)
 
       -- which cannot be
-      pub advance-back : {r : Front} → a .start < from → kindAt rows v < 7 → Sought src rows s v t r s'
+      pub advance-back : {r : Front} → a .start < from → kindAt rows v < 10 → Sought src rows s v t r s'
       advance-back lt few = found-by lv some few (λ good rdy.
           let i = advance-at good rdy in
           (i .0, λ k w. absurd (omega (arith, tight-some w from (i .1 w .1) one .from)), λ k. absurd (omega (arith, advance-onward k (i .2 k .0) .from))))

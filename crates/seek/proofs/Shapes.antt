@@ -21,32 +21,31 @@ chains k e = go (or-true (eqb k 3) (eqb k 4) e)
 pub no-chain : (k : ℕ) → chainKind k ≡ false → (k ≡ 3 → ⊥) × (k ≡ 4 → ⊥)
 no-chain k e = let n = or-false (eqb k 3) (eqb k 4) e in (eqb-false k 3 (n .0), eqb-false k 4 (n .1))
 
+-- a filter's number, by cases
+pub filter-kind : (P : ℕ → Type 0) (k : ℕ) → 4 < k → k < 10 → P 5 → P 6 → P 7 → P 8 → P 9 → P k
+filter-kind P zero a b p5 p6 p7 p8 p9 = absurd (omega arith)
+filter-kind P (suc zero) a b p5 p6 p7 p8 p9 = absurd (omega arith)
+filter-kind P (suc (suc zero)) a b p5 p6 p7 p8 p9 = absurd (omega arith)
+filter-kind P (suc (suc (suc zero))) a b p5 p6 p7 p8 p9 = absurd (omega arith)
+filter-kind P (suc (suc (suc (suc zero)))) a b p5 p6 p7 p8 p9 = absurd (omega arith)
+filter-kind P (suc (suc (suc (suc (suc zero))))) a b p5 p6 p7 p8 p9 = p5
+filter-kind P (suc (suc (suc (suc (suc (suc zero)))))) a b p5 p6 p7 p8 p9 = p6
+filter-kind P (suc (suc (suc (suc (suc (suc (suc zero))))))) a b p5 p6 p7 p8 p9 = p7
+filter-kind P (suc (suc (suc (suc (suc (suc (suc (suc zero)))))))) a b p5 p6 p7 p8 p9 = p8
+filter-kind P (suc (suc (suc (suc (suc (suc (suc (suc (suc zero))))))))) a b p5 p6 p7 p8 p9 = p9
+filter-kind P (suc (suc (suc (suc (suc (suc (suc (suc (suc (suc k)))))))))) a b p5 p6 p7 p8 p9 = absurd (omega arith)
+
 -- an operator but `or` narrows or skips, and none does both
-pub operator : (k : ℕ) → 1 < k → k < 7 → Narrows k ⊎ Skips k
+pub operator : (k : ℕ) → 1 < k → k < 10 → Narrows k ⊎ Skips k
 operator zero a b = absurd (omega arith)
 operator (suc zero) a b = absurd (omega arith)
 operator (suc (suc zero)) a b = inl (inl refl)
 operator (suc (suc (suc zero))) a b = inr (inl refl)
 operator (suc (suc (suc (suc zero)))) a b = inl (inr refl)
-operator (suc (suc (suc (suc (suc zero))))) a b = inr (inr (inl refl))
-operator (suc (suc (suc (suc (suc (suc zero)))))) a b = inr (inr (inr refl))
-operator (suc (suc (suc (suc (suc (suc (suc k))))))) a b = absurd (omega arith)
+operator (suc (suc (suc (suc (suc k))))) a b = inr (inr (omega arith, b))
 
 pub apart : (k : ℕ) → Narrows k → Skips k → ⊥
 apart k (inl a) (inl b) = omega arith
-apart k (inl a) (inr (inl b)) = omega arith
-apart k (inl a) (inr (inr b)) = omega arith
+apart k (inl a) (inr b) = omega arith
 apart k (inr a) (inl b) = omega arith
-apart k (inr a) (inr (inl b)) = omega arith
-apart k (inr a) (inr (inr b)) = omega arith
-
--- a number that none of them has
-pub outside : (k : ℕ) → (k ≡ 2 → ⊥) → (k ≡ 3 → ⊥) → (k ≡ 4 → ⊥) → (k ≡ 5 → ⊥) → (k ≡ 6 → ⊥) → (k < 2) ⊎ (6 < k)
-outside zero a b c d e = inl (omega arith)
-outside (suc zero) a b c d e = inl (omega arith)
-outside (suc (suc zero)) a b c d e = absurd (a refl)
-outside (suc (suc (suc zero))) a b c d e = absurd (b refl)
-outside (suc (suc (suc (suc zero)))) a b c d e = absurd (c refl)
-outside (suc (suc (suc (suc (suc zero))))) a b c d e = absurd (d refl)
-outside (suc (suc (suc (suc (suc (suc zero)))))) a b c d e = absurd (e refl)
-outside (suc (suc (suc (suc (suc (suc (suc k))))))) a b c d e = inr (omega arith)
+apart k (inr a) (inr b) = omega arith

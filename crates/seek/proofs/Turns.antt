@@ -9,15 +9,15 @@ use native.Mathlib.Omega.{arith}
 use lib.Dec.{leb, ltb, eqb}
 use borrow.Author.Tests.{lt-ltb, le-ltb, eq-eqb, ne-eqb}
 use Rattle.stretches.specs.Stretch.{Stretch, st}
-use Rattle.stretches.specs.Front.{firstFrom}
-use Rattle.stretches.specs.Table.{kindAt, firstAt, chainKind, nextOf, stopOf}
+use Rattle.stretches.specs.Front.{firstFrom, firstTo}
+use Rattle.stretches.specs.Table.{kindAt, firstAt, chainKind, holderKind, nextOf, stopOf}
 use Rattle.stretches.specs.inner.Operands.{operandsFrom, operandsOf}
 use Rattle.stretches.proofs.Table.{stop-most, from-more, from-end}
 use Rattle.seek.specs.declared.Front.{Front}
 use Rattle.seek.specs.Source.{Source, measured, given, listOver, Good}
-use Rattle.seek.specs.First.{atF, noneF, front, first, Ready}
+use Rattle.seek.specs.First.{atF, noneF, front, first, reach, Ready}
 use Rattle.seek.specs.inner.Fronts.{pastOf, badF, kept, goF, betterOf}
-use Rattle.seek.specs.inner.Looks.{spanFrom, chainFrom, clears, passes, others, lookBy, look, Sought, Looked, Passed, Tested, Filters}
+use Rattle.seek.specs.inner.Looks.{spanFrom, chainFrom, misses, verdict, passes, others, lookBy, look, Sought, Reached, Looked, Passed, Tested, Filters}
 use Rattle.seek.proofs.Best.{bestFrom, or-look}
 use Rattle.seek.proofs.Nodes.{fine-operands, or-list, look-kind}
 use Rattle.seek.proofs.Shapes.{chains}
@@ -248,34 +248,48 @@ module _ {src : Source} {rows s₀ s₁ : List ℕ} {v t : ℕ} {a : Front} (lv 
 rest-left : (src : Source) (rows : List ℕ) (v : ℕ) → v < 32 → v + 1 < stopOf rows v → others (operandsOf (given src rows) rows v) ≡ left src rows v (nextOf rows (v + 1))
 rest-left src rows v lv some = ap others (left-more src rows v (v + 1) lv some)
 
+-- the test of a front, the other operands being ls
+abbrev tested : ℕ → Front → List (List Stretch) → Bool
+tested k a ls = verdict k (misses k ls a)
+
 module _ {src : Source} {rows : List ℕ} {v : ℕ} {a : Front} (lv : v < 32) (some : v + 1 < stopOf rows v) where
   pub test-max : {s : List ℕ} {n : ℕ} {r : Bool} → kindAt rows v ≡ 6 → n ≡ measured src (st (a .start) (a .end)) → r ≡ leb n (firstAt rows v) → Tested src rows s v a r s
   test-max k en er = record {
     passed = λ good rdy. record {
       is = er ∙ ap (λ (x : ℕ). leb x (firstAt rows v)) en
-          ∙ sym (ap (λ b. cond b (leb (measured src (st (a .start) (a .end))) (firstAt rows v)) (clears (others (operandsOf (given src rows) rows v)) a)) (eq-eqb (kindAt rows v) 6 k));
+          ∙ sym (ap (λ b. cond b (leb (measured src (st (a .start) (a .end))) (firstAt rows v)) (verdict (kindAt rows v) (misses (kindAt rows v) (others (operandsOf (given src rows) rows v)) a))) (eq-eqb (kindAt rows v) 6 k));
       ready = rdy;
     };
   }
 
   module _ {o : ℕ} (six : kindAt rows v ≡ 6 → ⊥) (eo : o ≡ nextOf rows (v + 1)) where
-    test-other : {r : Bool} {s' : List ℕ} → Ready src rows s' → r ≡ clears (left src rows v o) a → Passed src rows v a r s'
+    test-other : {r : Bool} {s' : List ℕ} → Ready src rows s' → r ≡ verdict (kindAt rows v) (misses (kindAt rows v) (left src rows v o) a) → Passed src rows v a r s'
     test-other rdy er = record {
-      is = er ∙ ap (λ (n : ℕ). clears (left src rows v n) a) eo ∙ ap (λ (ls : List (List Stretch)). clears ls a) (sym (rest-left src rows v lv some))
-          ∙ sym (ap (λ b. cond b (leb (measured src (st (a .start) (a .end))) (firstAt rows v)) (clears (others (operandsOf (given src rows) rows v)) a)) (ne-eqb (kindAt rows v) 6 six));
+      is = er ∙ ap (λ (n : ℕ). tested (kindAt rows v) a (left src rows v n)) eo ∙ ap (tested (kindAt rows v) a) (sym (rest-left src rows v lv some))
+          ∙ sym (ap (λ b. cond b (leb (measured src (st (a .start) (a .end))) (firstAt rows v)) (verdict (kindAt rows v) (misses (kindAt rows v) (others (operandsOf (given src rows) rows v)) a))) (ne-eqb (kindAt rows v) 6 six));
       ready = rdy;
     }
 
-    pub test-alone : {s : List ℕ} {r : Bool} → stopOf rows v ≤ o → r ≡ true → Tested src rows s v a r s
-    test-alone le er = record { passed = λ good rdy. test-other rdy (er ∙ sym (ap (λ (ls : List (List Stretch)). clears ls a) (left-end src rows v o le))) }
+    -- there is no other operand
+    pub test-alone : {s : List ℕ} {r : Bool} → stopOf rows v ≤ o → r ≡ verdict (kindAt rows v) true → Tested src rows s v a r s
+    test-alone le er = record { passed = λ good rdy. test-other rdy (er ∙ sym (ap (tested (kindAt rows v) a) (left-end src rows v o le))) }
 
-    pub test-less : {s s' : List ℕ} {b : Front} {r : Bool} → o < stopOf rows v → Sought src rows s o (a .start) b s' → r ≡ ltb (a .end) (b .end) → Tested src rows s v a r s'
-    unfolding first
-    test-less lt w er = record {
-      passed = λ good rdy.
-          let g = w .found good rdy in
-          test-other (g .ready) (er ∙ ap (λ (x : Front). ltb (a .end) (x .end)) (g .is) ∙ sym (ap (λ (ls : List (List Stretch)). clears ls a) (left-more src rows v o lv lt)));
-    }
+    module _ (lt : o < stopOf rows v) where
+      -- what is found of it
+      by-other : {s' : List ℕ} {r : Bool} → Ready src rows s' → (h : Bool) → holderKind (kindAt rows v) ≡ h
+          → r ≡ verdict (kindAt rows v) (cond h (ltb (a .start) (front (firstTo (listOver src rows o) (a .end)) .start)) (ltb (a .end) (front (firstFrom (listOver src rows o) (a .start)) .end)))
+          → Passed src rows v a r s'
+      by-other rdy h e er = test-other rdy
+          (er ∙ ap (λ (c : Bool). verdict (kindAt rows v) (cond c (ltb (a .start) (front (firstTo (listOver src rows o) (a .end)) .start)) (ltb (a .end) (front (firstFrom (listOver src rows o) (a .start)) .end)))) (sym e)
+          ∙ sym (ap (tested (kindAt rows v) a) (left-more src rows v o lv lt)))
+
+      pub test-holder : {s s' : List ℕ} {b : Front} {r : Bool} → holderKind (kindAt rows v) ≡ true → Reached src rows s o (a .end) b s' → r ≡ verdict (kindAt rows v) (ltb (a .start) (b .start)) → Tested src rows s v a r s'
+      unfolding reach
+      test-holder k w er = record { passed = λ good rdy. let g = w .found good rdy in by-other (g .ready) true k (er ∙ ap (λ (x : Front). verdict (kindAt rows v) (ltb (a .start) (x .start))) (g .is)) }
+
+      pub test-inner : {s s' : List ℕ} {b : Front} {r : Bool} → holderKind (kindAt rows v) ≡ false → Sought src rows s o (a .start) b s' → r ≡ verdict (kindAt rows v) (ltb (a .end) (b .end)) → Tested src rows s v a r s'
+      unfolding first
+      test-inner k w er = record { passed = λ good rdy. let g = w .found good rdy in by-other (g .ready) false k (er ∙ ap (λ (x : Front). verdict (kindAt rows v) (ltb (a .end) (x .end))) (g .is)) }
 
 module _ {src : Source} {rows s s₁ : List ℕ} {v t : ℕ} {a : Front} (lv : v < 32) (some : v + 1 < stopOf rows v) (w : Sought src rows s (v + 1) t a s₁) where
   -- a look begins with the first operand's front

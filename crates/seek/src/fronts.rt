@@ -10,7 +10,7 @@ ghost use lib.Dec.{eqb};
 ghost use Rattle.stretches.specs.Stretch.{st};
 ghost use Rattle.seek.specs.Source.{measuredBy};
 ghost use Rattle.seek.specs.First.{noneF, atF};
-ghost use Rattle.seek.specs.inner.Fronts.{pastOf, betterOf, Serves, putAt};
+ghost use Rattle.seek.specs.inner.Fronts.{pastOf, betterOf, Serves, putAt, passAt, resumeAt};
 
 pub(crate) fn at(start: u32, end: u32) -> Front
     ensures { λ r. ⌜ r ≡ atF start end ⌝ }
@@ -55,6 +55,23 @@ pub(crate) fn put_front(st: &mut [u32; STATE], v: usize, f: Front, t: u32)
     st[v] = past(f.start);
     st[32 + v] = f.end;
     st[64 + v] = t;
+}
+
+// The line from which v is sought for what ends at or after e.
+pub(crate) fn resume(st: &[u32; STATE], v: usize, e: u32) -> u32
+    requires { ⌜ v < 32 ⌝ }
+    ensures { λ r. ⌜ r ≡ resumeAt (now (st .entry)) v e ⌝ }
+{
+    if st[128 + v] <= e { st[96 + v] } else { 0 }
+}
+
+// Keeps that all of v before line t ends before line e.
+pub(crate) fn put_passed(st: &mut [u32; STATE], v: usize, t: u32, e: u32)
+    requires { ⌜ v < 32 ⌝ }
+    ensures { λ _. ⌜ now (st .exit) ≡ passAt (now (st .entry)) v t e ⌝ }
+{
+    st[96 + v] = t;
+    st[128 + v] = e;
 }
 
 // Of two fronts the one with the least end, of equal ends the one with the greatest start.

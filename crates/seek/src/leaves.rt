@@ -97,10 +97,10 @@ pub(crate) fn seek_list(
     if items.len() < hi {
         return none();
     }
-    let c = wide(st[96 + v]);
+    let c = wide(st[160 + v]);
     let p = resume(items, lo, hi, c, t);
     let r = run(items, p, hi, t);
-    st[96 + v] = hint_of(r);
+    st[160 + v] = hint_of(r);
     if hi <= r + 1 {
         return none();
     }

@@ -1,7 +1,7 @@
-// The machine: node v brought to its first stretch that starts at or after t. The calls go round: a node seeks its operands, whose numbers are
-// higher than its own. A look is what an operator offers first from a line on: none, or a front; one that ends at line 65,536 is passed over.
+// The machine: node v brought to its first stretch that starts at or after t, or that ends at or after e. The calls go round: a node seeks its operands,
+// whose numbers are higher than its own. A look is what an operator offers first from a line on: none, or a front; one that ends at line 65,536 is passed over.
 //
-// From `fresh` down to the looks, each function but `seek` is called in one place: the compiler then makes one function of them all. With calls
+// From `fresh` down to the looks, each function but `seek` and `reach` is called in one place: the compiler then makes one function of them all. With calls
 // between them, which hand slices and fronts on through memory, the search was measurably slower.
 use crate::Front;
 use crate::NONE;
@@ -13,6 +13,8 @@ use crate::fronts::measure;
 use crate::fronts::none;
 use crate::fronts::past;
 use crate::fronts::put_front;
+use crate::fronts::put_passed;
+use crate::fronts::resume;
 use crate::fronts::serves;
 use crate::leaves::seek_list;
 use crate::leaves::seek_row;
@@ -20,24 +22,27 @@ use basics::least;
 use basics::most;
 use nodes::AND;
 use nodes::FIRST;
-use nodes::LESS;
+use nodes::HAS;
+use nodes::IN;
 use nodes::LIST;
 use nodes::MARKS;
 use nodes::MAX;
 use nodes::OR;
+use nodes::OUT;
 use nodes::ROW;
 use nodes::TABLE;
 use nodes::THEN;
 use nodes::is_chain;
+use nodes::is_proof;
 use nodes::next_of;
 use nodes::stop_of;
 ghost use mathlib.Core.Path.{_≡_};
 ghost use mathlib.Core.Bool.{true, false};
 ghost use mathlib.Core.Logic.{_⊎_};
 ghost use Prim.Native.Nat.{_+_, _≤_, _<_};
-ghost use Rattle.stretches.specs.Table.{kindAt, chainKind, stopOf};
+ghost use Rattle.stretches.specs.Table.{kindAt, chainKind, holderKind, stopOf};
 ghost use Rattle.seek.specs.Source.{source};
-ghost use Rattle.seek.specs.inner.Looks.{Narrows, Filters, Sought, Looked, Tested};
+ghost use Rattle.seek.specs.inner.Looks.{Narrows, Filters, Sought, Reached, Looked, Tested, verdict};
 
 // `or`: the best of the operands' fronts.
 fn seek_or(
@@ -129,6 +134,55 @@ fn chain(
     at(s, e)
 }
 
+// The first stretch of v that ends at or after e: front by front from where v was passed over, so B of a filter moves forward only.
+pub(crate) fn reach(
+    rows: &[usize; TABLE],
+    words: &[u64],
+    items: &[u32],
+    sound: &[u64],
+    st: &mut [u32; STATE],
+    v: usize,
+    e: u32,
+) -> Front
+    requires { ⌜ v < 32 ⌝ }
+    ensures { λ r. ⌜ Reached (source (now (words .entry)) (now (items .entry)) (now (sound .entry))) (now (rows .entry)) (now (st .entry)) v e r (now (st .exit)) ⌝ }
+{
+    let mut from = resume(st, v, e);
+    while from < NONE {
+        let b = seek(rows, words, items, sound, st, v, from);
+        if e <= b.end {
+            put_passed(st, v, from, e);
+            return b;
+        }
+        let s = b.start;
+        if NONE <= s {
+            return none();
+        }
+        if s < from {
+            return none();
+        }
+        from = s + 1;
+    }
+    none()
+}
+
+// Whether the kind asks for one of B that holds a front, not for one inside it: `in` and `out`.
+fn asks_holder(kind: usize) -> bool
+    ensures { λ r. ⌜ r ≡ holderKind kind ⌝ }
+{
+    if kind == IN {
+        return true;
+    }
+    kind == OUT
+}
+
+// Whether the kind keeps a front, given whether none of B is found for it: `in` and `has` keep it if one is, `less` and `out` if none is.
+fn keeps(kind: usize, missed: bool) -> bool
+    ensures { λ r. ⌜ r ≡ verdict kind missed ⌝ }
+{
+    if is_proof(kind) { !missed } else { missed }
+}
+
 // Whether a front of v's first operand passes the test of v's kind.
 fn passes(
     rows: &[usize; TABLE],
@@ -142,15 +196,20 @@ fn passes(
     requires { ⌜ (v < 32) × (v + 1 < stopOf (now rows) v) ⌝ }
     ensures { λ r. ⌜ Tested (source (now (words .entry)) (now (items .entry)) (now (sound .entry))) (now (rows .entry)) (now (st .entry)) v a r (now (st .exit)) ⌝ }
 {
-    if rows[v] == MAX {
+    let kind = rows[v];
+    if kind == MAX {
         return measure(sound, a) <= rows[FIRST + v];
     }
     let other = next_of(rows, v + 1);
     if stop_of(rows, v) <= other {
-        return true;
+        return keeps(kind, true);
+    }
+    if asks_holder(kind) {
+        let b = reach(rows, words, items, sound, st, other, a.end);
+        return keeps(kind, a.start < b.start);
     }
     let b = seek(rows, words, items, sound, st, other, a.start);
-    a.end < b.end
+    keeps(kind, a.end < b.end)
 }
 
 // The filters: the first operand's front from t on, good where it passes the test.
@@ -227,7 +286,7 @@ fn advance(
     t: u32,
 ) -> Front
     requires { ⌜ (v < 32) × (1 < kindAt (now rows) v) ⌝ }
-    ensures { λ r. ⌜ (kindAt (now (rows .entry)) v < 7 → Sought (source (now (words .entry)) (now (items .entry)) (now (sound .entry))) (now (rows .entry)) (now (st .entry)) v t r (now (st .exit))) ⌝ }
+    ensures { λ r. ⌜ (kindAt (now (rows .entry)) v < 10 → Sought (source (now (words .entry)) (now (items .entry)) (now (sound .entry))) (now (rows .entry)) (now (st .entry)) v t r (now (st .exit))) ⌝ }
 {
     let kind = rows[v];
     let mut best = none();
@@ -255,21 +314,12 @@ fn advance(
 
 // Whether it is the kind of an operator but `or`.
 fn has_looks(kind: usize) -> bool
-    ensures { λ r. ⌜ (r ≡ true → (1 < kind) × (kind < 7)) × (r ≡ false → (kind < 2) ⊎ (6 < kind)) ⌝ }
+    ensures { λ r. ⌜ (r ≡ true → (1 < kind) × (kind < 10)) × (r ≡ false → (kind < 2) ⊎ (9 < kind)) ⌝ }
 {
-    if kind == AND {
-        return true;
+    if kind < AND {
+        return false;
     }
-    if kind == ROW {
-        return true;
-    }
-    if kind == THEN {
-        return true;
-    }
-    if kind == LESS {
-        return true;
-    }
-    kind == MAX
+    kind <= HAS
 }
 
 // The front of v of which nothing that serves is kept, by its kind. A kind that no list and no operator has finds none.

@@ -9,6 +9,7 @@ pub mod Marks
 pub mod Steps
 pub mod Ordered
 pub mod Tight
+pub mod Held
 pub mod Shown
 pub mod Union
 pub mod Fine

@@ -3,12 +3,12 @@
 use Prim.Native.Nat.{ℕ, suc, _+_, _-_, _≤_, _<_}
 use mathlib.Core.Path.{_≡_, refl, sym, ap, subst₂, _∙_}
 use mathlib.Core.Logic.{inl, inr, _↔_}
-use mathlib.Core.Bool.{Bool, true, false}
+use mathlib.Core.Bool.{Bool, true, false, not}
 use mathlib.Core.List.{List, [], _∷_, map}
 use lib.Dec.{leb}
 use borrow.Author.Tests.{ltb-true, eqb-true, lt-ltb, eq-eqb}
 use native.Mathlib.Omega.{arith}
-use Rattle.stretches.specs.Stretch.{Stretch, st, In, low, high, linked, anyhow, adjoins, follows, Op, Or, And, Row, Then, Keep, Less, Max, containsNone, answers}
+use Rattle.stretches.specs.Stretch.{Stretch, st, In, low, high, linked, anyhow, adjoins, follows, Beside, Op, Or, And, Row, Then, Keep, Less, Max, Holding, containsNone, answers}
 use Rattle.stretches.specs.Run.{down}
 use Rattle.stretches.proofs.Lists.{NoneIn, none-in, none-in-test}
 use Rattle.basics.proofs.Basics.{cases, and-true, true-and}
@@ -126,7 +126,7 @@ pub data Alike (r n : ℕ) : Op → Op → Type 0 where
   and-alike : Alike r n And And
   row-alike : Alike r n Row Row
   then-alike : Alike r n Then Then
-  keep-alike : {f f′ : List (List Stretch) → Stretch → Bool} → Tests r n f f′ → Alike r n (Keep f) (Keep f′)
+  keep-alike : {f f′ : List (List Stretch) → Stretch → Bool} → {b : Beside} → Tests r n f f′ → Alike r n (Keep f b) (Keep f′ b)
 
 module _ (r n : ℕ) where
   any-down : (ls ls′ : List (List Stretch)) → Windows r n ls ls′ → (s e : ℕ) → e < n → InAny (r + s) (r + e) ls → InAny s e ls′
@@ -175,7 +175,7 @@ module _ (r n : ℕ) where
       let k = d s′ e′ m in
       f (s′ - r) (e′ - r) (into r n b b′ w s′ e′ (omega arith) (omega arith) (omega arith) m) (omega arith) (omega arith)
 
-  -- less passes over a stretch by what B has inside it
+  -- less and has go by what B has inside a stretch
   none-alike : Tests r n containsNone containsNone
   none-alike [] [] d w s e h = refl
   none-alike [] (b′ ∷ ls′) d w s e h = absurd w
@@ -200,6 +200,9 @@ module _ (r n : ℕ) where
 
   pub less-alike : Alike r n Less Less
   less-alike = keep-alike none-alike
+
+  pub has-alike : Alike r n Holding Holding
+  has-alike = keep-alike (λ ls ls′ d w s e h. ap not (none-alike ls ls′ d w s e h))
 
   -- a measure that measures alike inside the window
   pub max-alike : (m m′ : Stretch → ℕ) (k : ℕ) → ((s e : ℕ) → e < n → m (st (r + s) (r + e)) ≡ m′ (st s e)) → Alike r n (Max m k) (Max m′ k)

@@ -3,11 +3,11 @@ use Prim.Native.Nat.{ℕ, zero, suc}
 use mathlib.Core.Path.{_≡_, refl}
 use mathlib.Core.List.{List, [], _∷_, map}
 use mathlib.Core.Option.{Option, none, some}
-use Rattle.stretches.specs.Stretch.{Stretch, lengthOf, Op, Or, And, Row, Then, Less, Max, answers}
+use Rattle.stretches.specs.Stretch.{Stretch, lengthOf, Op, Or, And, Row, Then, Less, Max, Inside, Outside, Holding, answers}
 
--- 1 or, 2 and, 3 row, 4 then, 5 less, 6 max, which has the measure m and the bound k
+-- 1 or, 2 and, 3 row, 4 then, 5 less, 6 max, which has the measure m and the bound k, 7 in, 8 out, 9 has
 abbrev pub operators : (Stretch → ℕ) → ℕ → List Op
-operators m k = Or ∷ And ∷ Row ∷ Then ∷ Less ∷ Max m k ∷ []
+operators m k = Or ∷ And ∷ Row ∷ Then ∷ Less ∷ Max m k ∷ Inside ∷ Outside ∷ Holding ∷ []
 
 -- number n of these, the first being 0
 abbrev pub among : List Op → ℕ → Option Op
@@ -25,6 +25,6 @@ abbrev pub apply : Option Op → List Stretch → List (List Stretch) → List S
 apply none own ls = own
 apply (some o) own ls = answers o ls
 
-ex-operators : map (λ n. operatorOf lengthOf n 9) (0 ∷ 1 ∷ 2 ∷ 3 ∷ 4 ∷ 5 ∷ 6 ∷ 7 ∷ [])
-    ≡ none ∷ some Or ∷ some And ∷ some Row ∷ some Then ∷ some Less ∷ some (Max lengthOf 9) ∷ none ∷ []
+ex-operators : map (λ n. operatorOf lengthOf n 9) (0 ∷ 1 ∷ 2 ∷ 3 ∷ 4 ∷ 5 ∷ 6 ∷ 7 ∷ 8 ∷ 9 ∷ 10 ∷ [])
+    ≡ none ∷ some Or ∷ some And ∷ some Row ∷ some Then ∷ some Less ∷ some (Max lengthOf 9) ∷ some Inside ∷ some Outside ∷ some Holding ∷ none ∷ []
 ex-operators = refl

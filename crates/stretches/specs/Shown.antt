@@ -1,15 +1,12 @@
 -- What an operator shows of its operands for one of its answers: docs/FORMATS.md, "The lines that made a stretch". Assumes nothing.
 use Prim.Native.Nat.{min, max}
 use mathlib.Core.Path.{_≡_, refl}
-use mathlib.Core.Bool.{Bool, false, cond, _||_}
+use mathlib.Core.Bool.{Bool, true, false, cond, _||_}
 use mathlib.Core.List.{List, [], _∷_, map}
 use lib.Dec.{eqb}
-use Rattle.stretches.specs.Stretch.{Stretch, st, inside, same, keep, adjoins, follows, Op, Or, And, Row, Then, Keep, Less, answers}
-use Rattle.stretches.specs.Front.{Front, None, At, headOf, nth}
-
--- the first of the list that passes the test; none where none does
-abbrev pub firstThat : (Stretch → Bool) → List Stretch → Front
-firstThat f l = headOf (keep f l)
+use lib.ListN.{take}
+use Rattle.stretches.specs.Stretch.{Stretch, st, inside, same, adjoins, follows, Beside, Alone, Holder, Inner, Op, Or, And, Row, Then, Keep, Less, Inside, Outside, Holding, answers}
+use Rattle.stretches.specs.Front.{Front, None, At, firstThat, nth}
 
 -- x is in the list
 abbrev pub isIn : Stretch → List Stretch → Bool
@@ -46,10 +43,16 @@ abbrev pub shownRow : (Stretch → Stretch → Bool) → Stretch → List (List 
 shownRow f x [] = []
 shownRow f x (l ∷ ls) = atStart x l ∷ shownAfter f (atStart x l) ls
 
--- less and max: A's, and nothing of B
-abbrev pub shownFirst : Stretch → List (List Stretch) → List Front
-shownFirst x [] = []
-shownFirst x (l ∷ ls) = At x ∷ nothing ls
+-- y stands so to the answer x that it proves it: it holds x, or lies inside x
+abbrev pub proves : Beside → Stretch → Stretch → Bool
+proves Alone x y = false
+proves Holder x y = inside x y
+proves Inner x y = inside y x
+
+-- the filters: A's, and of B the first that proves it: of `in` the first that holds it, of `has` the first inside it, else nothing
+abbrev pub shownFirst : Beside → Stretch → List (List Stretch) → List Front
+shownFirst b x [] = []
+shownFirst b x (l ∷ ls) = At x ∷ map (firstThat (proves b x)) ls
 
 -- what is shown of each operand, given their lists and the answer
 abbrev pub shownBelow : Op → List (List Stretch) → Stretch → List Front
@@ -57,7 +60,26 @@ shownBelow Or ls x = shownOr x ls
 shownBelow And ls x = shownAnd x ls
 shownBelow Row ls x = shownRow adjoins x ls
 shownBelow Then ls x = shownRow follows x ls
-shownBelow (Keep f) ls x = shownFirst x ls
+shownBelow (Keep f b) ls x = shownFirst b x ls
+
+-- the filters that show of B what proves the answer, which belongs to the proof of the answer, not to its span
+abbrev pub proven : Op → Bool
+proven Or = false
+proven And = false
+proven Row = false
+proven Then = false
+proven (Keep f Alone) = false
+proven (Keep f Holder) = true
+proven (Keep f Inner) = true
+
+-- what makes the span: all, or where what proves the answer is shown too, the first alone
+abbrev pub spanning : {A : Type 0} → Bool → List A → List A
+spanning b l = cond b (take 1 l) l
+
+-- it is there and passes the test
+abbrev pub Proved : (Stretch → Bool) → Front → Type 0
+Proved f None = ⊥
+Proved f (At y) = f y ≡ true
 
 -- the span of those that are there: the least start and the greatest end; none where none is
 abbrev pub spanned : Front → Front → Front
@@ -93,6 +115,21 @@ ex-row = (refl, refl)
 -- B's 3..5 starts where A's 3..4 does, but is not inside it
 ex-less : (nth (answers Less ((st 3 4 ∷ []) ∷ (st 3 5 ∷ []) ∷ [])) 0 ≡ At (st 3 4)) × (shownBelow Less ((st 3 4 ∷ []) ∷ (st 3 5 ∷ []) ∷ []) (st 3 4) ≡ At (st 3 4) ∷ None ∷ [])
 ex-less = (refl, refl)
+
+-- B's 0..1 and 5..13 do not hold A's 3..5, 1..9 is the first of two that do; what is shown of B does not count for the span
+abbrev exHeld : List (List Stretch)
+exHeld = (st 3 5 ∷ []) ∷ (st 0 1 ∷ st 1 9 ∷ st 2 12 ∷ st 5 13 ∷ []) ∷ []
+
+ex-in : (answers Inside exHeld ≡ st 3 5 ∷ []) × (shownBelow Inside exHeld (st 3 5) ≡ At (st 3 5) ∷ At (st 1 9) ∷ []) × (spanOf (spanning (proven Inside) (shownBelow Inside exHeld (st 3 5))) ≡ At (st 3 5))
+ex-in = (refl, refl, refl)
+
+-- 5..13 shares line 5 and does not hold 3..5
+ex-out : (answers Outside ((st 3 5 ∷ []) ∷ (st 5 13 ∷ []) ∷ []) ≡ st 3 5 ∷ []) × (shownBelow Outside ((st 3 5 ∷ []) ∷ (st 5 13 ∷ []) ∷ []) (st 3 5) ≡ At (st 3 5) ∷ None ∷ [])
+ex-out = (refl, refl)
+
+-- B's 0..1 reaches out of A's 1..6, 2..2 is the first of two inside
+ex-has : (answers Holding ((st 1 6 ∷ []) ∷ (st 0 1 ∷ st 2 2 ∷ st 6 6 ∷ []) ∷ []) ≡ st 1 6 ∷ []) × (shownBelow Holding ((st 1 6 ∷ []) ∷ (st 0 1 ∷ st 2 2 ∷ st 6 6 ∷ []) ∷ []) (st 1 6) ≡ At (st 1 6) ∷ At (st 2 2) ∷ [])
+ex-has = (refl, refl)
 
 ex-span : spanOf (None ∷ At (st 2 4) ∷ At (st 1 3) ∷ []) ≡ At (st 1 4)
 ex-span = refl

@@ -1,4 +1,4 @@
--- Stretches of lines, rising lists of them, and what the six operators answer: docs/FORMATS.md, "What the operators mean", and section 3 of
+-- Stretches of lines, rising lists of them, and what the operators answer: docs/FORMATS.md, "What the operators mean"; `or` to `max` as in section 3 of
 -- Boldi and Vigna, "Efficient Optimally Lazy Algorithms for Minimal-Interval Semantics".
 -- Assumes nothing.
 use Prim.Native.Nat.{ℕ, suc, _-_, _≤_, _<_, min, max}
@@ -42,10 +42,17 @@ inside x y = leb (y .start) (x .start) && leb (x .end) (y .end)
 abbrev pub same : Stretch → Stretch → Bool
 same x y = eqb (x .start) (y .start) && eqb (x .end) (y .end)
 
--- none of the list lies inside x
+-- none of the list passes the test
+abbrev pub noneThat : (Stretch → Bool) → List Stretch → Bool
+noneThat f [] = true
+noneThat f (y ∷ ys) = not (f y) && noneThat f ys
+
+-- none of the list lies inside x; x lies inside none of the list
 abbrev pub holdsNone : List Stretch → Stretch → Bool
-holdsNone [] x = true
-holdsNone (y ∷ ys) x = not (inside y x) && holdsNone ys x
+holdsNone l x = noneThat (λ y. inside y x) l
+
+abbrev pub insideNone : List Stretch → Stretch → Bool
+insideNone l x = noneThat (inside x) l
 
 -- none of the list but x itself lies inside x
 abbrev pub holdsNoOther : List Stretch → Stretch → Bool
@@ -144,9 +151,19 @@ abbrev pub keepFirst : (List (List Stretch) → Stretch → Bool) → List (List
 keepFirst f [] = []
 keepFirst f (a ∷ ls) = keep (f ls) a
 
--- x contains none of B
+-- x contains none of B, and some
 abbrev pub containsNone : List (List Stretch) → Stretch → Bool
 containsNone ls x = holdsNone (firstList ls) x
+
+abbrev pub containsSome : List (List Stretch) → Stretch → Bool
+containsSome ls x = not (containsNone ls x)
+
+-- x lies in none of B, and inside some, an equal one included
+abbrev pub liesInNone : List (List Stretch) → Stretch → Bool
+liesInNone ls x = insideNone (firstList ls) x
+
+abbrev pub liesInSome : List (List Stretch) → Stretch → Bool
+liesInSome ls x = not (liesInNone ls x)
 
 -- x measures at most k
 abbrev pub atMost : (Stretch → ℕ) → ℕ → List (List Stretch) → Stretch → Bool
@@ -156,17 +173,31 @@ atMost m k ls x = leb (m x) k
 abbrev pub lengthOf : Stretch → ℕ
 lengthOf x = suc (x .end) - x .start
 
--- the operators; a filter has its test, which may look at the other operands
+-- what a filter shows of B beside its answer: nothing, the first that holds the answer, or the first inside it
+pub data Beside : Type 0 where
+  Alone Holder Inner : Beside
+
+-- the operators; a filter has its test, which may look at the other operands, and what it shows of them
 pub data Op : Type 0 where
   Or And Row Then : Op
-  Keep : (List (List Stretch) → Stretch → Bool) → Op
+  Keep : (List (List Stretch) → Stretch → Bool) → Beside → Op
 
 -- less; max has its measure beside its bound
 abbrev pub Less : Op
-Less = Keep containsNone
+Less = Keep containsNone Alone
 
 abbrev pub Max : (Stretch → ℕ) → ℕ → Op
-Max m k = Keep (atMost m k)
+Max m k = Keep (atMost m k) Alone
+
+-- in, out and has
+abbrev pub Inside : Op
+Inside = Keep liesInSome Holder
+
+abbrev pub Outside : Op
+Outside = Keep liesInNone Alone
+
+abbrev pub Holding : Op
+Holding = Keep containsSome Inner
 
 -- what an operator answers, given its operands' lists
 abbrev pub answers : Op → List (List Stretch) → List Stretch
@@ -174,4 +205,4 @@ answers Or ls = minimal (together ls)
 answers And ls = minimal (spans (linked anyhow) (tuples ls))
 answers Row ls = arrange (spans (linked adjoins) (tuples ls))
 answers Then ls = minimal (spans (linked follows) (tuples ls))
-answers (Keep f) ls = keepFirst f ls
+answers (Keep f b) ls = keepFirst f ls

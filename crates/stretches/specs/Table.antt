@@ -34,6 +34,14 @@ leafKind k = eqb k 16 || eqb k 17
 abbrev pub chainKind : ℕ → Bool
 chainKind k = eqb k 3 || eqb k 4
 
+-- the filters that ask for one of B that holds the answer: `in` and `out`
+abbrev pub holderKind : ℕ → Bool
+holderKind k = eqb k 7 || eqb k 8
+
+-- the filters that show of B what proves the answer: `in` and `has`
+abbrev pub proofKind : ℕ → Bool
+proofKind k = eqb k 7 || eqb k 9
+
 -- ── Operands: the first stands behind its operator, each next one behind the subtree of the one before ──
 
 -- the place behind c's subtree: past c, and at most 32; 32 where there is no node c

@@ -118,7 +118,7 @@ more-after l f cells =
     (λ k. le-ltb (0 + length (written l f cells)) (length (drop f l)) (omega (arith, ltb-false (f + length (written l f cells)) (length l) k)))
 
 pub filled-all : {src : Source} {rows : List ℕ} {line f t : ℕ} {s : List ℕ} {cells : List ℕ} {w : Walked} {cells' : List ℕ}
-    → PassedOver src rows (replicate 128 0) line f t s → Put src rows s t cells w cells' → FillAll src rows line f cells w cells'
+    → PassedOver src rows (replicate 192 0) line f t s → Put src rows s t cells w cells' → FillAll src rows line f cells w cells'
 filled-all {src} {rows} {line} {f} {t} {s} {cells} {w} {cells'} a b = record {
   fills = λ good.
       let rdy = ready-none src rows in

@@ -1,5 +1,5 @@
 -- What is shown of the answer that was asked for, and the call's returns. Assumes nothing.
-use Prim.Native.Nat.{ℕ, _*_, _≤_, _<_}
+use Prim.Native.Nat.{ℕ, _*_, _≤_}
 use mathlib.Core.Path.{_≡_, refl, sym, ap, ap₂, subst, _∙_}
 use mathlib.Core.List.{List, [], _∷_, _++_}
 use native.Mathlib.Omega.{arith}
@@ -60,12 +60,6 @@ module _ (src : Source) (table rows : List ℕ) (good : Good src table) (k : ℕ
   of-list : (l : List Stretch) → listOver src table 0 ≡ l → Filling l k (0 ∷ 0 ∷ []) w pair
   of-list l e =
       subst (λ (l : List Stretch). Filling l k (0 ∷ 0 ∷ []) w pair) (onward-all (listOver src table 0) (fine src table good 0 (omega arith) .rising) ∙ e) (f .fills good)
-
-  -- the answer ends below line 65,536
-  pub answer-low : (w .count ≡ 0 → ⊥) → getD pair 1 0 < 65536
-  answer-low n =
-      fine src table good 0 (omega arith) .below (getD pair 0 0) (getD pair 1 0)
-      (nth-in (listOver src table 0) k (st (getD pair 0 0) (getD pair 1 0)) (pair-some (listOver src table 0) k w pair (of-list (listOver src table 0) refl) n))
 
   module _ (ls : List Line) (p : Pattern) (stands : Stands src table rows ls 0 p) where
     of-pattern : Filling (answersOf p ls) k (0 ∷ 0 ∷ []) w pair

@@ -1,11 +1,13 @@
 // Every stretch with the lines that made it: for one answer of a pattern the nodes that took part, each with its stretch, into lent cells.
-// The log is marked once; every shown stretch is the first of its node's list from some line on, and is sought anew.
+// The log is marked once; every shown stretch is the first of its node's list from some line on, or to one, and is sought anew.
 use acceptance::read_both;
 use meaning::Reply;
 use nodes::AND;
+use nodes::IN;
 use nodes::TABLE;
 use nodes::is_chain;
 use nodes::is_leaf;
+use nodes::is_proof;
 use nodes::next_of;
 use nodes::stop_of;
 use plan::FEW;
@@ -14,6 +16,7 @@ use plan::FEW_WORDS;
 use plan::SOUND;
 use plan::WORDS;
 use seek::Front;
+use seek::NONE;
 use seek::STATE;
 ghost use mathlib.Core.Path.{_≡_};
 ghost use mathlib.Core.Bool.{true, cond};
@@ -28,7 +31,7 @@ ghost use Rattle.seek.specs.First.{Ready};
 ghost use Rattle.plan.specs.Plan.{widthOf};
 ghost use Rattle.plan.specs.inner.Room.{Roomy};
 ghost use Rattle.witness.specs.Witness.{shownIn, filledShown, witnessing};
-ghost use Rattle.witness.specs.inner.Showing.{Grown, ShownAt, AnswerShown, TableShown};
+ghost use Rattle.witness.specs.inner.Showing.{Grown, operandOf, ShownAt, AnswerShown, TableShown};
 
 // ── One answer ──
 
@@ -46,14 +49,17 @@ fn put(cells: &mut [u32], n: usize, v: usize, s: u32, e: u32) -> usize
     n + 1
 }
 
-// Whether an operator shows all of its operands, not one alone: `and`, `row` and `then`.
+// Whether an operator shows all of its operands, not one alone: `and`, `row` and `then`, `in` and `has`.
 fn shows_each(kind: usize) -> bool
     ensures { λ r. ⌜ r ≡ eachKind kind ⌝ }
 {
     if kind == AND {
         return true;
     }
-    is_chain(kind)
+    if is_chain(kind) {
+        return true;
+    }
+    is_proof(kind)
 }
 
 // The line from which the next operand is sought, after one that ends at line e.
@@ -64,9 +70,40 @@ fn after(chain: bool, t: u32, e: u32) -> u32
     if chain { e + 1 } else { t }
 }
 
-// Writes what node v shows of its answer f behind n triples: how many there are now. An operand's first stretch from the line where it is sought on is
-// shown if it does not end behind f: of an `or` such a stretch is f itself, `and`, `row` and `then` have one from each operand, `less` and `max` have f.
-// rows is the pattern's table, and table the machine's.
+// What is shown of operand c for the answer f, none where nothing is: its first stretch from line t on, if it does not end behind f. Enclosing, as B of `in`,
+// its first to f's end, if it does not start behind f's start.
+fn operand(
+    table: &[usize; TABLE],
+    words: &[u64],
+    items: &[u32],
+    sound: &[u64],
+    st: &mut [u32; STATE],
+    c: usize,
+    t: u32,
+    enclosing: bool,
+    f: Front,
+) -> Front
+    requires { ⌜ Good (source (now words) (now items) (now sound)) (now table) × Ready (source (now words) (now items) (now sound)) (now table) (now st) × (c < 32) ⌝ }
+    ensures { λ r. ⌜ r ≡ operandOf (source (now (words .entry)) (now (items .entry)) (now (sound .entry))) (now (table .entry)) c t enclosing f ⌝ }
+    ensures { λ _. ⌜ Ready (source (now (words .entry)) (now (items .entry)) (now (sound .entry))) (now (table .entry)) (now (st .exit)) ⌝ }
+{
+    let none = Front {
+        start: NONE,
+        end: NONE,
+    };
+    if enclosing {
+        let g = seek::first_to(table, words, items, sound, st, c, f.end);
+        if g.start <= f.start {
+            return g;
+        }
+        return none;
+    }
+    let g = seek::first(table, words, items, sound, st, c, t);
+    if g.end <= f.end { g } else { none }
+}
+
+// Writes what node v shows of its answer f behind n triples: how many there are now. Of an `or` what is found of an operand is f itself, `and`, `row` and
+// `then` have one from each operand, the filters have f, and `in` and `has` one of B behind it. rows is the pattern's table, and table the machine's.
 fn show_node(
     rows: &[usize; TABLE],
     table: &[usize; TABLE],
@@ -79,7 +116,7 @@ fn show_node(
     f: Front,
     n: usize,
 ) -> usize
-    requires { ⌜ Good (source (now words) (now items) (now sound)) (now table) × Ready (source (now words) (now items) (now sound)) (now table) (now st) × (v < 32) × (f .end < 65536) ⌝ }
+    requires { ⌜ Good (source (now words) (now items) (now sound)) (now table) × Ready (source (now words) (now items) (now sound)) (now table) (now st) × (v < 32) ⌝ }
     ensures { λ r. ⌜ ShownAt (source (now (words .entry)) (now (items .entry)) (now (sound .entry))) (now (table .entry)) (now (rows .entry)) v f n (now (cells .entry)) r (now (cells .exit)) ⌝ }
     ensures { λ _. ⌜ Ready (source (now (words .entry)) (now (items .entry)) (now (sound .entry))) (now (table .entry)) (now (st .exit)) ⌝ }
 {
@@ -92,14 +129,27 @@ fn show_node(
     }
     let each = shows_each(kind);
     let chain = is_chain(kind);
+    let later = kind == IN;
     let stop = stop_of(rows, v);
     let mut c = v + 1;
     let mut t = s;
+    let mut enclosing = false;
     while c < stop {
-        let g = seek::first(table, words, items, sound, st, c, t);
+        let g = operand(
+            table,
+            words,
+            items,
+            sound,
+            st,
+            c,
+            t,
+            enclosing,
+            Front { start: s, end: e },
+        );
+        enclosing = later;
         let next = next_of(rows, c);
         let end = g.end;
-        if e < end {
+        if NONE <= g.start {
             c = next;
         } else {
             k = show_node(rows, table, words, items, sound, st, cells, c, g, k);

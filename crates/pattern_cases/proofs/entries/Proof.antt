@@ -1,4 +1,4 @@
--- `entries` ends: its loop counts up to seven. Assumes nothing.
+-- `entries` ends: its loop counts up to 14. Assumes nothing.
 use Prim.Native.Nat.{_-_}
 use native.Mathlib.Omega.{arith}
 use Rattle.pattern_cases.proofs.entries.Statement.{statement}
@@ -8,7 +8,7 @@ abbrev Inv-loop : tie.InvT-loop
 Inv-loop text rows v₀ v = Unit {0}
 
 abbrev μ-loop : tie.MeasureT-loop
-μ-loop text rows v₀ v = 7 - v
+μ-loop text rows v₀ v = 14 - v
 
 pub entries-spec : {M : Type 1} → statement M
 entries-spec =

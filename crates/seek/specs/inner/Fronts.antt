@@ -3,9 +3,9 @@ use Prim.Native.Nat.{ℕ, _+_, _≤_, _<_}
 use mathlib.Core.Bool.{Bool, cond}
 use mathlib.Core.List.{List}
 use lib.ListN.{set}
-use lib.Dec.{ltb}
+use lib.Dec.{leb, ltb}
 use Rattle.seek.specs.declared.Front.{Front}
-use Rattle.seek.specs.First.{atF, noneF, liveAt, askedAt}
+use Rattle.seek.specs.First.{atF, noneF, liveAt, askedAt, passedAt, endedAt}
 
 -- the line after; past 65,536 there is none
 unfoldable pub pastOf : ℕ → ℕ
@@ -34,6 +34,14 @@ goF f k = cond (ltb (f .start) 65536) (k f) noneF
 -- the state with front f, asked from t, stored for v
 unfoldable pub putAt : List ℕ → ℕ → Front → ℕ → List ℕ
 putAt s v f t = set (set (set s v (pastOf (f .start))) (32 + v) (f .end)) (64 + v) t
+
+-- the state with v passed over up to line t, before which all ends before line e
+unfoldable pub passAt : List ℕ → ℕ → ℕ → ℕ → List ℕ
+passAt s v t e = set (set s (96 + v) t) (128 + v) e
+
+-- the line from which v is sought for what ends at or after e: as far as it was passed over, if all before ends before e
+unfoldable pub resumeAt : List ℕ → ℕ → ℕ → ℕ
+resumeAt s v e = cond (leb (endedAt s v) e) (passedAt s v) 0
 
 -- what is kept of v is what is found from t too
 pub record Serves (s : List ℕ) (v t : ℕ) : Type 0 where

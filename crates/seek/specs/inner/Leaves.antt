@@ -28,7 +28,7 @@ pub record Ran (items : List ℕ) (p hi t r : ℕ) : Type 0 where
 -- only hints were changed
 pub record Hinted (s s' : List ℕ) : Type 0 where
   pub wide : length s' ≡ length s
-  pub same : (j : ℕ) → j < 96 → getD s' j 0 ≡ getD s j 0
+  pub same : (j : ℕ) → j < 160 → getD s' j 0 ≡ getD s j 0
 
 pub record ListFound (items : List ℕ) (lo hi t : ℕ) (s : List ℕ) (r : Front) (s' : List ℕ) : Type 0 where
   pub is : Rising (lent items lo hi) → r ≡ front (firstFrom (lent items lo hi) t)

@@ -1,22 +1,26 @@
 -- What a look at a node's operands finds. Private contracts cite this. Assumes nothing.
-use Prim.Native.Nat.{ℕ, min, max}
+use Prim.Native.Nat.{ℕ, _<_, min, max}
 use mathlib.Core.Path.{_≡_}
 use mathlib.Core.Logic.{_⊎_}
 use mathlib.Core.Bool.{Bool, true, false, not, cond, _&&_}
 use mathlib.Core.List.{List, [], _∷_}
 use lib.Dec.{leb, ltb, eqb}
 use Rattle.stretches.specs.Stretch.{Stretch, st}
-use Rattle.stretches.specs.Front.{firstFrom}
-use Rattle.stretches.specs.Table.{kindAt, firstAt}
+use Rattle.stretches.specs.Front.{firstFrom, firstTo}
+use Rattle.stretches.specs.Table.{kindAt, firstAt, holderKind, proofKind}
 use Rattle.stretches.specs.inner.Operands.{operandsOf}
 use Rattle.seek.specs.declared.Front.{Front}
 use Rattle.seek.specs.Source.{Source, measured, given, Good}
-use Rattle.seek.specs.First.{atF, noneF, front, Ready, Found}
+use Rattle.seek.specs.First.{atF, noneF, front, first, reach, Ready, Found}
 use Rattle.seek.specs.inner.Fronts.{pastOf, badF, kept, goF}
 
 -- node v was sought from t with the state at s, which is left at s'
 pub record Sought (src : Source) (rows s : List ℕ) (v t : ℕ) (r : Front) (s' : List ℕ) : Type 0 where
-  pub found : Good src rows → Ready src rows s → Found src rows v t r s'
+  pub found : Good src rows → Ready src rows s → Found src rows (first src rows v t) r s'
+
+-- node v was sought for its first stretch that ends at or after e, with the state at s, which is left at s'
+pub record Reached (src : Source) (rows s : List ℕ) (v e : ℕ) (r : Front) (s' : List ℕ) : Type 0 where
+  pub found : Good src rows → Ready src rows s → Found src rows (reach src rows v e) r s'
 
 -- ── Looking at operands: what an operator offers first from t on, no good where it ends at line 65,536 ──
 
@@ -30,13 +34,18 @@ unfoldable pub chainFrom : Bool → ℕ → ℕ → List (List Stretch) → Fron
 chainFrom tight s e [] = atF s e
 chainFrom tight s e (l ∷ ls) = goF (front (firstFrom l (pastOf e))) (λ f. cond (tight && not (eqb (f .start) (pastOf e))) (badF s) (chainFrom tight s (f .end) ls))
 
--- the filters' tests of a front of the first operand, the others being ls: `max` is 6, and else `less`
-abbrev pub clears : List (List Stretch) → Front → Bool
-clears [] f = true
-clears (b ∷ bs) f = ltb (f .end) (front (firstFrom b (f .start)) .end)
+-- nothing is found in B, the first of the others: for `in` and `out` none that holds the front, for `less` and `has` none inside it
+abbrev pub misses : ℕ → List (List Stretch) → Front → Bool
+misses k [] f = true
+misses k (b ∷ bs) f = cond (holderKind k) (ltb (f .start) (front (firstTo b (f .end)) .start)) (ltb (f .end) (front (firstFrom b (f .start)) .end))
 
+-- `in` and `has` keep a front for which one is found, `less` and `out` one for which none is
+abbrev pub verdict : ℕ → Bool → Bool
+verdict k m = cond (proofKind k) (not m) m
+
+-- the filters' tests of a front of the first operand, the others being ls: `max` is 6
 abbrev pub passes : Source → ℕ → ℕ → List (List Stretch) → Front → Bool
-passes src kind bound ls f = cond (eqb kind 6) (leb (measured src (st (f .start) (f .end))) bound) (clears ls f)
+passes src kind bound ls f = cond (eqb kind 6) (leb (measured src (st (f .start) (f .end))) bound) (verdict kind (misses kind ls f))
 
 -- the operands but the first
 abbrev pub others : List (List Stretch) → List (List Stretch)
@@ -77,10 +86,10 @@ pub record Tested (src : Source) (rows s : List ℕ) (v : ℕ) (a : Front) (r : 
 abbrev pub Narrows : ℕ → Type 0
 Narrows k = (k ≡ 2) ⊎ (k ≡ 4)
 
--- `less` and `max`, and every number that no operator has: a look at the first operand
+-- the filters, and every number that no operator has: a look at the first operand
 abbrev pub Filters : ℕ → Type 0
 Filters k = (k ≡ 2 → ⊥) × (k ≡ 3 → ⊥) × (k ≡ 4 → ⊥)
 
 -- `row` and the filters: skipped to the first look that is good
 abbrev pub Skips : ℕ → Type 0
-Skips k = (k ≡ 3) ⊎ ((k ≡ 5) ⊎ (k ≡ 6))
+Skips k = (k ≡ 3) ⊎ ((4 < k) × (k < 10))

@@ -2,7 +2,7 @@
 use borrow.Author.Needs.{needs}
 use Rattle.seek.specs.Source.{source}
 use Rattle.seek.proofs.State.{ready-none}
-use Rattle.witness.proofs.Answering.{answer-low, answer-none, answer-some}
+use Rattle.witness.proofs.Answering.{answer-none, answer-some}
 use Rattle.witness.proofs.show_answer.Statement.{statement}
 use Rattle.witness.proofs.show_answer.Tie as tie
 
@@ -16,7 +16,7 @@ show-node-requires : tie.Need-show-node-requires
 show-node-requires c κs =
     let b = c .before .before .before .before .before .before .before .before .before .before .before in
     let a = b .args in
-    (b .pre, ready-none (source (a .words .now) (a .items .now) (a .sound .now)) (a .table .now), search needs, answer-low (source (a .words .now) (a .items .now) (a .sound .now)) (a .table .now) (a .rows .now) (b .pre) (a .number) _ _ (c .before .before .before .before .before .fill .ensures .0) (c .before .before .if1 .left))
+    (b .pre, ready-none (source (a .words .now) (a .items .now) (a .sound .now)) (a .table .now), search needs)
 
 returns-2 : tie.Need-returns-2
 returns-2 c =

@@ -1,11 +1,13 @@
 -- What is written node by node. Private contracts cite this. Assumes nothing.
 use Prim.Native.Nat.{ℕ, _+_, _≤_}
 use mathlib.Core.Path.{_≡_}
+use mathlib.Core.Bool.{Bool}
 use mathlib.Core.List.{List, _++_}
 use lib.ListN.{length}
-use Rattle.stretches.specs.Stretch.{st, In}
+use Rattle.stretches.specs.Stretch.{Stretch, st, In}
 use Rattle.stretches.specs.Front.{nth}
 use Rattle.stretches.specs.Table.{listAt}
+use Rattle.stretches.specs.inner.Below.{foundOne}
 use Rattle.records.specs.declared.Line.{Line}
 use Rattle.records.specs.Line.{says}
 use Rattle.pattern.specs.Pattern.{Pattern, nodes}
@@ -14,6 +16,7 @@ use Rattle.meaning.specs.Meaning.{overLines, overTable, answersOf}
 use Rattle.meaning.specs.Shown.{Shown, ofFront, shownFrom, shown}
 use Rattle.seek.specs.declared.Front.{Front}
 use Rattle.seek.specs.Source.{Source, listOver}
+use Rattle.seek.specs.First.{front}
 use Rattle.witness.specs.Witness.{writtenShown, filledShown}
 
 -- ── Cells ──
@@ -27,6 +30,13 @@ abbrev pub Grown : List Shown → ℕ → List ℕ → ℕ → List ℕ → Type
 Grown d n cells n′ cells′ = (l : List Shown) (cells₀ : List ℕ) → Held l cells₀ n cells → Held (l ++ d) cells₀ n′ cells′
 
 -- ── Nodes ──
+
+abbrev pub stretchOf : Front → Stretch
+stretchOf f = st (f .start) (f .end)
+
+-- what is found of operand c for the answer f, the first from line t on or, by end, to f's end
+unfoldable pub operandOf : Source → List ℕ → ℕ → ℕ → Bool → Front → Front
+operandOf src table c t byEnd f = front (foundOne byEnd (stretchOf f) t (listOver src table c))
 
 -- a pattern stands at node v of its table, and the machine's table has the lists of its nodes in these lines
 pub record Stands (src : Source) (table rows : List ℕ) (ls : List Line) (v : ℕ) (p : Pattern) : Type 0 where

@@ -10,9 +10,8 @@ use borrow.Author.Tests.{eq-eqb, ne-eqb}
 use native.Mathlib.Omega.{arith}
 use Rattle.pattern.specs.Kinds.{kinds, kindIn}
 use Rattle.pattern.specs.Automaton.{letterAt, alike, continues, next}
-use Rattle.basics.proofs.Basics.{true-and}
+use Rattle.basics.proofs.Basics.{true-and, and-false, false-and}
 use Rattle.pattern.proofs.KindLaws.{Sought, search-begin, search-here, search-on, search-end}
-use Rattle.pattern.proofs.Words.{and-false, false-and}
 use Rattle.pattern.proofs.alphabet.next.Statement.{statement}
 use Rattle.pattern.proofs.alphabet.next.Tie as tie
 

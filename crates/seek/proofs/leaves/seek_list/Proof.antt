@@ -14,10 +14,10 @@ returns-2 : tie.Need-returns-2
 returns-2 c = list-outside (c .none2 .ensures) (c .before .if2 .taken)
 
 returns-3 : tie.Need-returns-3
-returns-3 c = let a = c .before .before .before .before .before .before .before .before .before .before .before .before .args in list-none (c .before .before .before .before .before .before .before .if2 .left) (c .before .before .before .before .resume .ensures) (c .before .before .before .run .ensures) (hinted-set (a .st .now) (96 + a .v) (c .before .before .hint-of .result) (omega arith)) (c .none3 .ensures) (c .before .if3 .taken)
+returns-3 c = let a = c .before .before .before .before .before .before .before .before .before .before .before .before .args in list-none (c .before .before .before .before .before .before .before .if2 .left) (c .before .before .before .before .resume .ensures) (c .before .before .before .run .ensures) (hinted-set (a .st .now) (160 + a .v) (c .before .before .hint-of .result) (omega arith)) (c .none3 .ensures) (c .before .if3 .taken)
 
 returns-4 : tie.Need-returns-4
-returns-4 c = let a = c .before .before .before .before .before .before .before .before .before .before .before .before .before .before .args in list-at (c .before .before .before .before .before .before .before .before .before .if2 .left) (c .before .before .before .before .before .before .resume .ensures) (c .before .before .before .before .before .run .ensures) (hinted-set (a .st .now) (96 + a .v) (c .before .before .before .before .hint-of .result) (omega arith)) (c .at .ensures) (c .before .before .before .if3 .left)
+returns-4 c = let a = c .before .before .before .before .before .before .before .before .before .before .before .before .before .before .args in list-at (c .before .before .before .before .before .before .before .before .before .if2 .left) (c .before .before .before .before .before .before .resume .ensures) (c .before .before .before .before .before .run .ensures) (hinted-set (a .st .now) (160 + a .v) (c .before .before .before .before .hint-of .result) (omega arith)) (c .at .ensures) (c .before .before .before .if3 .left)
 
 pub seek-list-spec : {M : Type 1} → statement M
 seek-list-spec =

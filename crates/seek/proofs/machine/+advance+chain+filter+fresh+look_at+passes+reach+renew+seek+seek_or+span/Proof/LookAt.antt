@@ -10,8 +10,8 @@ use Rattle.seek.proofs.machine.chain.Reads as chain
 use Rattle.seek.proofs.machine.filter.Reads as filter
 use Rattle.seek.proofs.machine.look_at.Reads as look-at
 use Rattle.seek.proofs.machine.span.Reads as span
-use Rattle.seek.proofs.machine.+advance+chain+filter+fresh+look_at+passes+renew+seek+seek_or+span.Lts-look_at as lts
-use Rattle.seek.proofs.machine.+advance+chain+filter+fresh+look_at+passes+renew+seek+seek_or+span.Proof.Common.{look-at-at, chain-below, filter-below, span-below}
+use Rattle.seek.proofs.machine.+advance+chain+filter+fresh+look_at+passes+reach+renew+seek+seek_or+span.Lts-look_at as lts
+use Rattle.seek.proofs.machine.+advance+chain+filter+fresh+look_at+passes+reach+renew+seek+seek_or+span.Proof.Common.{look-at-at, chain-below, filter-below, span-below}
 use Rattle.seek.proofs.Shapes.{no-chain}
 use Rattle.seek.proofs.Turns.{look-none}
 

@@ -10,8 +10,8 @@ use Rattle.nodes.proofs.next_of.Reads as next-of-reads
 use Rattle.nodes.proofs.stop_of.Reads as stop-of-reads
 use Rattle.seek.proofs.machine.chain.Reads as chain
 use Rattle.seek.proofs.machine.seek.Reads as seek
-use Rattle.seek.proofs.machine.+advance+chain+filter+fresh+look_at+passes+renew+seek+seek_or+span.Lts-chain as lts
-use Rattle.seek.proofs.machine.+advance+chain+filter+fresh+look_at+passes+renew+seek+seek_or+span.Proof.Common.{chain-at, seek-below}
+use Rattle.seek.proofs.machine.+advance+chain+filter+fresh+look_at+passes+reach+renew+seek+seek_or+span.Lts-chain as lts
+use Rattle.seek.proofs.machine.+advance+chain+filter+fresh+look_at+passes+reach+renew+seek+seek_or+span.Proof.Common.{chain-at, seek-below}
 use Rattle.seek.specs.Source.{source}
 use mathlib.Core.Path.{sym, _∙_}
 use Rattle.seek.proofs.Turns.{ChainInv, chain-gone, chain-start, chain-turn, chain-stop, chain-break, chain-end}

@@ -9,8 +9,8 @@ use Rattle.seek.proofs.machine.advance.Reads as advance
 use Rattle.seek.proofs.machine.fresh.Reads as fresh
 use Rattle.seek.proofs.machine.has_looks.Reads as has-looks-reads
 use Rattle.seek.proofs.machine.seek_or.Reads as seek-or
-use Rattle.seek.proofs.machine.+advance+chain+filter+fresh+look_at+passes+renew+seek+seek_or+span.Lts-fresh as lts
-use Rattle.seek.proofs.machine.+advance+chain+filter+fresh+look_at+passes+renew+seek+seek_or+span.Proof.Common.{fresh-at, advance-below, seek-or-below}
+use Rattle.seek.proofs.machine.+advance+chain+filter+fresh+look_at+passes+reach+renew+seek+seek_or+span.Lts-fresh as lts
+use Rattle.seek.proofs.machine.+advance+chain+filter+fresh+look_at+passes+reach+renew+seek+seek_or+span.Proof.Common.{fresh-at, advance-below, seek-or-below}
 use mathlib.Core.Logic.{inl, inr, ⊎-elim}
 use Rattle.seek.proofs.State.{by-row, by-list, by-none}
 

@@ -6,8 +6,8 @@ use Rattle.seek.proofs.fronts.at.Reads as at-reads
 use Rattle.seek.proofs.fronts.serves.Reads as serves-reads
 use Rattle.seek.proofs.machine.renew.Reads as renew
 use Rattle.seek.proofs.machine.seek.Reads as seek
-use Rattle.seek.proofs.machine.+advance+chain+filter+fresh+look_at+passes+renew+seek+seek_or+span.Lts-seek as lts
-use Rattle.seek.proofs.machine.+advance+chain+filter+fresh+look_at+passes+renew+seek+seek_or+span.Proof.Common.{seek-at, renew-below}
+use Rattle.seek.proofs.machine.+advance+chain+filter+fresh+look_at+passes+reach+renew+seek+seek_or+span.Lts-seek as lts
+use Rattle.seek.proofs.machine.+advance+chain+filter+fresh+look_at+passes+reach+renew+seek+seek_or+span.Proof.Common.{seek-at, renew-below}
 use Rattle.seek.proofs.State.{served}
 
 abbrev R : ℕ → lts.Claims

@@ -5,8 +5,8 @@ use native.Mathlib.Omega.{arith}
 use Rattle.seek.proofs.fronts.put_front.Reads as put-front-reads
 use Rattle.seek.proofs.machine.fresh.Reads as fresh
 use Rattle.seek.proofs.machine.renew.Reads as renew
-use Rattle.seek.proofs.machine.+advance+chain+filter+fresh+look_at+passes+renew+seek+seek_or+span.Lts-renew as lts
-use Rattle.seek.proofs.machine.+advance+chain+filter+fresh+look_at+passes+renew+seek+seek_or+span.Proof.Common.{renew-at, fresh-below}
+use Rattle.seek.proofs.machine.+advance+chain+filter+fresh+look_at+passes+reach+renew+seek+seek_or+span.Lts-renew as lts
+use Rattle.seek.proofs.machine.+advance+chain+filter+fresh+look_at+passes+reach+renew+seek+seek_or+span.Proof.Common.{renew-at, fresh-below}
 use Rattle.seek.proofs.State.{stored}
 
 abbrev R : ℕ → lts.Claims

@@ -14,6 +14,8 @@ use Rattle.seek.proofs.machine.look_at.Reads as look-at
 use Rattle.seek.proofs.machine.look_at.Kinds as look-at-kinds
 use Rattle.seek.proofs.machine.passes.Reads as passes
 use Rattle.seek.proofs.machine.passes.Kinds as passes-kinds
+use Rattle.seek.proofs.machine.reach.Reads as reach
+use Rattle.seek.proofs.machine.reach.Kinds as reach-kinds
 use Rattle.seek.proofs.machine.renew.Reads as renew
 use Rattle.seek.proofs.machine.renew.Kinds as renew-kinds
 use Rattle.seek.proofs.machine.seek.Reads as seek
@@ -24,34 +26,37 @@ use Rattle.seek.proofs.machine.span.Reads as span
 use Rattle.seek.proofs.machine.span.Kinds as span-kinds
 
 abbrev pub μ-advance : Measures 5 advance-kinds.ps ℕ
-μ-advance κs a = 8 * (32 - a .1 .1 .1 .1 .1 .0) + 4
+μ-advance κs a = 9 * (32 - a .1 .1 .1 .1 .1 .0) + 4
 
 abbrev pub μ-chain : Measures 5 chain-kinds.ps ℕ
-μ-chain κs a = 8 * (32 - a .1 .1 .1 .1 .1 .0) + 2
+μ-chain κs a = 9 * (32 - a .1 .1 .1 .1 .1 .0) + 2
 
 abbrev pub μ-filter : Measures 5 filter-kinds.ps ℕ
-μ-filter κs a = 8 * (32 - a .1 .1 .1 .1 .1 .0) + 2
+μ-filter κs a = 9 * (32 - a .1 .1 .1 .1 .1 .0) + 2
 
 abbrev pub μ-fresh : Measures 5 fresh-kinds.ps ℕ
-μ-fresh κs a = 8 * (32 - a .1 .1 .1 .1 .1 .0) + 5
+μ-fresh κs a = 9 * (32 - a .1 .1 .1 .1 .1 .0) + 5
 
 abbrev pub μ-look-at : Measures 5 look-at-kinds.ps ℕ
-μ-look-at κs a = 8 * (32 - a .1 .1 .1 .1 .1 .0) + 3
+μ-look-at κs a = 9 * (32 - a .1 .1 .1 .1 .1 .0) + 3
 
 abbrev pub μ-passes : Measures 5 passes-kinds.ps ℕ
-μ-passes κs a = 8 * (32 - a .1 .1 .1 .1 .1 .0) + 1
+μ-passes κs a = 9 * (32 - a .1 .1 .1 .1 .1 .0) + 1
+
+abbrev pub μ-reach : Measures 5 reach-kinds.ps ℕ
+μ-reach κs a = 9 * (32 - a .1 .1 .1 .1 .1 .0) + 8
 
 abbrev pub μ-renew : Measures 5 renew-kinds.ps ℕ
-μ-renew κs a = 8 * (32 - a .1 .1 .1 .1 .1 .0) + 6
+μ-renew κs a = 9 * (32 - a .1 .1 .1 .1 .1 .0) + 6
 
 abbrev pub μ-seek : Measures 5 seek-kinds.ps ℕ
-μ-seek κs a = 8 * (32 - a .1 .1 .1 .1 .1 .0) + 7
+μ-seek κs a = 9 * (32 - a .1 .1 .1 .1 .1 .0) + 7
 
 abbrev pub μ-seek-or : Measures 5 seek-or-kinds.ps ℕ
-μ-seek-or κs a = 8 * (32 - a .1 .1 .1 .1 .1 .0) + 4
+μ-seek-or κs a = 9 * (32 - a .1 .1 .1 .1 .1 .0) + 4
 
 abbrev pub μ-span : Measures 5 span-kinds.ps ℕ
-μ-span κs a = 8 * (32 - a .1 .1 .1 .1 .1 .0) + 2
+μ-span κs a = 9 * (32 - a .1 .1 .1 .1 .1 .0) + 2
 
 abbrev pub advance-at : ℕ → In 5 advance-kinds.ps
 advance-at t = and 5 advance-kinds.ps (is 5 advance-kinds.ps μ-advance t) advance.Pre
@@ -88,6 +93,12 @@ passes-at t = and 5 passes-kinds.ps (is 5 passes-kinds.ps μ-passes t) passes.Pr
 
 abbrev pub passes-below : ℕ → In 5 passes-kinds.ps
 passes-below t = and 5 passes-kinds.ps (falls 5 passes-kinds.ps _<_ μ-passes t) passes.Pre
+
+abbrev pub reach-at : ℕ → In 5 reach-kinds.ps
+reach-at t = and 5 reach-kinds.ps (is 5 reach-kinds.ps μ-reach t) reach.Pre
+
+abbrev pub reach-below : ℕ → In 5 reach-kinds.ps
+reach-below t = and 5 reach-kinds.ps (falls 5 reach-kinds.ps _<_ μ-reach t) reach.Pre
 
 abbrev pub renew-at : ℕ → In 5 renew-kinds.ps
 renew-at t = and 5 renew-kinds.ps (is 5 renew-kinds.ps μ-renew t) renew.Pre

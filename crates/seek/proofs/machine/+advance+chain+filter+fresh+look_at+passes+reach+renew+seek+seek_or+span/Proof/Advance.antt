@@ -6,8 +6,8 @@ use Rattle.seek.proofs.fronts.none.Reads as none-reads
 use Rattle.seek.proofs.machine.settles.Reads as settles-reads
 use Rattle.seek.proofs.machine.advance.Reads as advance
 use Rattle.seek.proofs.machine.look_at.Reads as look-at
-use Rattle.seek.proofs.machine.+advance+chain+filter+fresh+look_at+passes+renew+seek+seek_or+span.Lts-advance as lts
-use Rattle.seek.proofs.machine.+advance+chain+filter+fresh+look_at+passes+renew+seek+seek_or+span.Proof.Common.{advance-at, look-at-below}
+use Rattle.seek.proofs.machine.+advance+chain+filter+fresh+look_at+passes+reach+renew+seek+seek_or+span.Lts-advance as lts
+use Rattle.seek.proofs.machine.+advance+chain+filter+fresh+look_at+passes+reach+renew+seek+seek_or+span.Proof.Common.{advance-at, look-at-below}
 use Rattle.seek.specs.Source.{source}
 use Rattle.seek.proofs.Searches.{AdvanceInv, advance-start, advance-gone, advance-past, advance-good, advance-back, advance-turn, advance-out}
 

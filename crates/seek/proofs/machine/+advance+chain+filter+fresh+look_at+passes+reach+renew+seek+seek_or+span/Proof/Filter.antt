@@ -7,8 +7,8 @@ use Rattle.seek.proofs.fronts.none.Reads as none-reads
 use Rattle.seek.proofs.machine.filter.Reads as filter
 use Rattle.seek.proofs.machine.passes.Reads as passes
 use Rattle.seek.proofs.machine.seek.Reads as seek
-use Rattle.seek.proofs.machine.+advance+chain+filter+fresh+look_at+passes+renew+seek+seek_or+span.Lts-filter as lts
-use Rattle.seek.proofs.machine.+advance+chain+filter+fresh+look_at+passes+renew+seek+seek_or+span.Proof.Common.{filter-at, passes-below, seek-below}
+use Rattle.seek.proofs.machine.+advance+chain+filter+fresh+look_at+passes+reach+renew+seek+seek_or+span.Lts-filter as lts
+use Rattle.seek.proofs.machine.+advance+chain+filter+fresh+look_at+passes+reach+renew+seek+seek_or+span.Proof.Common.{filter-at, passes-below, seek-below}
 use mathlib.Core.Path.{refl}
 use Rattle.stretches.proofs.Table.{stop-most}
 use Rattle.seek.proofs.Turns.{filter-gone, filter-done}
