@@ -19,7 +19,7 @@ use shown::ENOUGH;
 use std::hint::black_box;
 use std::time::{Duration, Instant};
 
-/// One of each operator, over six leaves.
+/// Six operators, over six leaves.
 const SIX: &str = "less,max,900,and,2,then,2,or,2,ev,7,0,ev,12,0,ev,20,0,row,2,ev,3,0,ev,2,0,ev,15,2";
 
 /// The medians of `a` and `b`, called in turn for about half a second.
@@ -256,6 +256,14 @@ fn main() {
         row(&format!("dense, {operator} of 31 leaves"), &dense_leaves(operator), &dense[0], 3_000);
     }
     over_logs("40 dense logs in turn, and of 31", &dense_leaves("and"), &dense, 3_000);
+    // The long stretches overlap, a quarter of all lines starts one, and each reaches over some thirty lines.
+    let (line, long) = ("ev,1,1", format!("then,8{}", ",ev,2,2".repeat(8)));
+    for (operator, chosen, other) in [("in", line, &*long), ("out", line, &long), ("has", &long, line), ("less", &long, line)] {
+        row(&format!("dense, {operator} with long stretches"), &format!("{operator},{chosen},{other}"), &dense[0], 3_000);
+    }
+    let six = format!("then,6{}", ",ev,2,2".repeat(6));
+    let nested = format!("in,in,in,{line},in,{line},{six},in,{line},{six},{six}");
+    row("dense, in within in on both sides", &nested, &dense[0], 3_000);
     row("full log, six operators", SIX, &full, 6_000);
     row("full log of line feeds", SIX, &vec![b'\n'; reference::LOG_MAX], 1);
     for part in [32, 16, 8, 4, 2, 1] {
@@ -267,6 +275,10 @@ fn main() {
     row("the same without max", &over_long["max,60,".len()..], &spelled, 6_000);
     for part in [8, 4, 2, 1] {
         row(&format!("max over long, 1/{part} of a full log"), &over_long, &spelled[..reference::LOG_MAX / part], 6_000);
+    }
+    let in_long = format!("in,ev,2,0,then,28{}", ",ev,1,0".repeat(28));
+    for part in [8, 4, 2, 1] {
+        row(&format!("in over long, 1/{part} of a full log"), &in_long, &spelled[..reference::LOG_MAX / part], 6_000);
     }
     println!();
     println!("Picks, found being their number.");
@@ -284,7 +296,7 @@ fn main() {
     println!("What is shown of the last answer, found being the nodes that took part.");
     print_heads("finder us", "plain us", "ns/byte");
     let (then, after_it) = deep_then();
-    let shown: [(&str, &str, &[u8]); 8] = [
+    let shown: [(&str, &str, &[u8]); 9] = [
         ("3,000 lines, six operators", SIX, &evening),
         ("3,000 lines, one leaf, most match", "ev,2,0", &evening),
         ("3,000 lines, or of 31 leaves", &leaves("or"), &evening),
@@ -292,6 +304,7 @@ fn main() {
         ("dense, and of 31 leaves", &dense_leaves("and"), &dense[0]),
         ("dense, then of 31 leaves", &dense_leaves("then"), &dense[0]),
         ("full log, six operators", SIX, &full),
+        ("full log, in over long stretches", &in_long, &spelled),
         ("3,000 lines, then in then, five deep", &then, &after_it),
     ];
     shown.iter().for_each(|(name, pattern, log)| witness_row(name, pattern, log));
@@ -307,4 +320,5 @@ fn main() {
     step_row("3,000 lines, or of 31 leaves", &leaves("or"), &evening, 3_000);
     step_row("dense, and of 31 leaves", &dense_leaves("and"), &dense[0], 3_000);
     step_row("full log, six operators", SIX, &full, 6_000);
+    step_row("full log, in over long stretches", &in_long, &spelled, 6_000);
 }

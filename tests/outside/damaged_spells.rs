@@ -84,13 +84,7 @@ fn whole_lines(rng: &mut Rng, lines: usize, most: usize) -> Vec<u8> {
 
 /// A tree with each `row` made a `then`.
 fn without_row(tree: Tree) -> Tree {
-    match tree {
-        Tree::Op { op, k, operands } => {
-            let op = if op == Op::Row { Op::Then } else { op };
-            Tree::Op { op, k, operands: operands.into_iter().map(without_row).collect() }
-        }
-        leaf => leaf,
-    }
+    inputs::with_ops(tree, &|op| if op == Op::Row { Op::Then } else { op })
 }
 
 /// Through the calls alone: damaged lines put between the lines of a log move the stretches of a pattern without `row`, and add or remove none.
@@ -127,7 +121,7 @@ fn by_steps(calls: &dyn Calls, pattern: &[u8], log: &[u8]) -> Result<List, u64> 
 }
 
 /// Demand 3 through the calls alone, with damaged lines before, in and after the run: the stretches within it are those of the run alone, by
-/// filling and by steps.
+/// filling and by steps, of a pattern without `in` and `out`.
 pub fn runs(t: &Trial) -> Outcome {
     let mut rng = Rng(57);
     for _ in 0..t.rounds(4_000) {
@@ -135,7 +129,8 @@ pub fn runs(t: &Trial) -> Outcome {
         let [before, run, after] = lines.map(|lines| whole_lines(&mut rng, lines, LOG_MAX / 3));
         let log = [&before[..], &run, &after[..after.len() - rng.below(after.len() + 1).min(2)]].concat();
         let fits = if rng.once_in(2) { &run } else { &log };
-        let pattern = spell_inputs::with_max(&mut rng, fits).spell().into_bytes();
+        let tree = inputs::by_runs(spell_inputs::with_max(&mut rng, fits));
+        let pattern = spell_inputs::fitted(&mut rng, tree, fits).spell().into_bytes();
         let (r, n) = (reference::lines(&before).len() as u32, reference::lines(&run).len() as u32);
         let within = |list: List| -> List {
             let inside = list.into_iter().filter(|a| a.s >= r && a.e < r + n);

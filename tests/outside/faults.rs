@@ -1,6 +1,7 @@
 //! Wrong variants of the plain calls: each exchanges one part.
 
 use crate::digit_faults;
+use crate::inside_faults;
 use crate::lane_faults;
 use crate::lent::{self, Taken};
 use crate::pick_faults;
@@ -12,7 +13,7 @@ use crate::witness_faults;
 use std::cmp::Reverse;
 
 /// Short enough for the literal definitions.
-fn short(lists: &[List]) -> bool {
+pub fn short(lists: &[List]) -> bool {
     lists.iter().map(Vec::len).sum::<usize>() < 200
 }
 
@@ -101,6 +102,7 @@ fn other_and(lists: &[List], p: u64, line_8: bool, higher_first: bool) -> Taken 
 /// The wrong variants.
 pub fn variants() -> Vec<(&'static str, Plain)> {
     let mut all = over_meaning();
+    all.extend(inside_faults::variants());
     all.extend(over_reading());
     all.extend(lane_faults::variants());
     all.extend(spell_faults::variants());
@@ -259,7 +261,7 @@ fn over_reading() -> Vec<(&'static str, Plain)> {
         ),
         ("k passed over", lists(|op, k, items, ends| lent::read_lists(op, if op == 6 { k } else { 0 }, items, ends))),
         ("k of 65,536", lists(|op, k, items, ends| lent::read_lists(op, if k == 65_536 { k - 1 } else { k }, items, ends))),
-        ("operator 7", lists(|op, k, items, ends| lent::read_lists(if op == 7 { 1 } else { op }, k, items, ends))),
+        ("operator 10", lists(|op, k, items, ends| lent::read_lists(if op == 10 { 1 } else { op }, k, items, ends))),
         (
             "one list for or",
             lists(|op, k, items, ends| match op {

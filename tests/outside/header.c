@@ -49,6 +49,18 @@ static unsigned refusal_over(uint32_t op, uint32_t k, uint32_t lists, uint32_t p
     return finder_refusal(finder_lists_fill(op, k, items, 2 * lists, ends, lists, cells, 0, 0));
 }
 
+/* How many stretches `op` keeps of a list of one stretch, the second list being [1..2]: of [1..1], [0..3], [1..2] and [4..5] in turn, a digit each. */
+static unsigned kept(uint32_t op)
+{
+    static const uint32_t stretches[4][2] = {{1, 1}, {0, 3}, {1, 2}, {4, 5}}, ends[2] = {2, 4};
+    unsigned digits = 0;
+    for (int i = 0; i < 4; i++) {
+        uint32_t items[4] = {stretches[i][0], stretches[i][1], 1, 2}, cells[4];
+        digits = 10 * digits + finder_written(finder_lists_fill(op, 0, items, 4, ends, 2, cells, 4, 0));
+    }
+    return digits;
+}
+
 /* The result of so many picks, of three lines that all match. */
 static uint64_t picks(uint32_t k, uint32_t *cells, size_t cell_count)
 {
@@ -78,6 +90,18 @@ static void limits(void)
     CHECK(finder_refusal(picks(1, cells, 0)) == FINDER_ACCEPTED && finder_refusal(picks(FINDER_PICKS_MAX, cells, 0)) == FINDER_ACCEPTED);
     CHECK(finder_written(picks(2, cells, 6)) == 2 && cells[0] == 0 && cells[1] == 0 && cells[2] == 1 && cells[3] == 1 && cells[4] == 9);
     CHECK(finder_written(picks(FINDER_PICKS_MAX, cells, 6)) == 3 && cells[4] == 2 && cells[5] == 2);
+}
+
+/* The operators that choose among a list's stretches by those of a second list, and that there is none behind the last. */
+static void operators(void)
+{
+    static const uint32_t choosing[] = {FINDER_LESS, FINDER_IN, FINDER_OUT, FINDER_HAS};
+    for (int i = 0; i < 4; i++) {
+        CHECK(refusal_over(choosing[i], 0, 2, 0) == FINDER_ACCEPTED && refusal_over(choosing[i], 1, 2, 0) == FINDER_MISCALLED);
+        CHECK(refusal_over(choosing[i], 0, 1, 0) == FINDER_MISCALLED && refusal_over(choosing[i], 0, 3, 0) == FINDER_MISCALLED);
+    }
+    CHECK(kept(FINDER_LESS) == 1001 && kept(FINDER_IN) == 1010 && kept(FINDER_OUT) == 101 && kept(FINDER_HAS) == 110);
+    CHECK(refusal_over(FINDER_HAS + 1, 0, 2, 0) == FINDER_MISCALLED);
 }
 
 /* Two cells for each line are enough where every line is an answer, and fewer are not. */
@@ -159,6 +183,7 @@ static void readers(void)
 int main(void)
 {
     limits();
+    operators();
     cells_enough();
     nodes_shown();
     words();

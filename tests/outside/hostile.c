@@ -30,7 +30,8 @@ static const char *const patterns[] = {
     "row,3,fr,0,0,fr,1,0,fr,3,0",
     "less,and,2,ev,7,0,fr,3,0,max,2,or,2,ev,9,4,ev,12,0", "and,3,then,2,ev,7,0,ev,9,0,or,2,fr,0,4,fr,10,5,max,65535,fr,1,0",
     "max,9,max,9,max,9,max,9,max,9,max,9,max,9,ev,1,0", "max,9,max,9,max,9,max,9,max,9,max,9,max,9,max,9,ev,1,0",
-    "and,2,less,row,2,ev,1,0,ev,7,0,ev,9,0,then,2,or,2,ev,12,1,fr,3,0,max,3,and,2,ev,1,4,ev,9,5", "or,18446744073709551616,ev,1,0"};
+    "and,2,less,row,2,ev,1,0,ev,7,0,ev,9,0,then,2,or,2,ev,12,1,fr,3,0,max,3,and,2,ev,1,4,ev,9,5", "or,18446744073709551616,ev,1,0",
+    "in,ev,12,0,then,2,ev,7,0,ev,9,0", "out,fr,3,0,and,2,ev,7,0,ev,9,0", "has,and,2,ev,7,0,ev,9,0,in,fr,3,0,then,2,ev,7,4,ev,12,0"};
 
 static const char *const lines[] = {"1,4,7,3,6\n", "2,4,12,20,3,0\n", "1,5,9,0,0\n", "1,1,1,10,10\n", "2,99,255,300,10,10\n", "\n", "oops\n",
     "1,4,7,3,6\r\n", "2,4,7,3", "99999999999999999999999999\n", "1,04,7,3,6\n", "2,012,7,20,3,6\n", ",,,,,\n"};
@@ -64,7 +65,7 @@ static void use(const uint32_t *cells, size_t written)
             sum++;
 }
 
-static const uint32_t edges[] = {0, 1, 2, 6, 7, 31, 32, 65535, 65536, 0x7fffffff, 0x80000000, 0xfffffffe, 0xffffffff};
+static const uint32_t edges[] = {0, 1, 2, 6, 7, 9, 10, 31, 32, 65535, 65536, 0x7fffffff, 0x80000000, 0xfffffffe, 0xffffffff};
 
 /* Ends the run where a call says what cannot be. */
 static void must(int holds, const char *what)
@@ -118,6 +119,15 @@ static void over_picks(const uint8_t *pattern, size_t pattern_len, const uint8_t
     free(cells);
 }
 
+/* Whether a pattern has an `in`: what that shows of B may reach out of the answer. */
+static int has_in(const uint8_t *pattern, size_t pattern_len)
+{
+    for (size_t i = 0; i + 3 <= pattern_len; i++)
+        if (memcmp(pattern + i, "in,", 3) == 0)
+            return 1;
+    return 0;
+}
+
 /* The call that shows what made an answer: refused as the filling call was, or else nodes that rise, with stretches inside the answer,
    which is the first one's. */
 static void over_witness(const uint8_t *pattern, size_t pattern_len, const uint8_t *log, size_t log_len, uint64_t filled)
@@ -139,7 +149,8 @@ static void over_witness(const uint8_t *pattern, size_t pattern_len, const uint8
         const uint32_t *part = cells + 3 * i;
         must(i == 0 ? part[0] == 0 && part[1] == answer[0] && part[2] == answer[1] : part[0] > part[-3] && part[0] < FINDER_NODES_MAX,
             "the first node has not the answer, or the nodes do not rise");
-        must(answer[0] <= part[1] && part[1] <= part[2] && part[2] <= answer[1], "a stretch is not inside the answer");
+        must(part[1] <= part[2], "a stretch ends before it starts");
+        must((answer[0] <= part[1] && part[2] <= answer[1]) || has_in(pattern, pattern_len), "a stretch is not inside the answer");
         shown++;
     }
     free(cells);
@@ -189,7 +200,7 @@ static void over_lists(void)
         ends[below((uint32_t)list_count)] = edges[below(COUNT(edges))];
     if (item_count > 0 && below(4) == 0)
         items[below((uint32_t)item_count)] = edges[below(COUNT(edges))];
-    uint32_t op = below(12) == 0 ? edges[below(COUNT(edges))] : 1 + below(6);
+    uint32_t op = below(12) == 0 ? edges[below(COUNT(edges))] : 1 + below(9);
     uint32_t k = op == FINDER_MAX ? edges[below(COUNT(edges))] : below(9) == 0;
     size_t cell_count = below(4) == 0 ? item_count : below(12);
     uint32_t *cells = block(cell_count * sizeof *cells);

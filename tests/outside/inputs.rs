@@ -38,7 +38,7 @@ const CODES: [u32; 4] = [1, 7, 9, 12];
 const FRAMES: [u32; 4] = [0, 1, 3, 10];
 const HANDICAPS: [u32; 6] = [0, 1, 3, 10, 20, 300];
 /// Bytes and numbers at the edges of the rules.
-const BYTES: &[u8] = b"0123456789,,,\n\n\r\0 +-.\tevforandwthlsmxE\x7f\x80\xff/:";
+const BYTES: &[u8] = b"0123456789,,,\n\n\r\0 +-.\tevforandwthlsmxiuE\x7f\x80\xff/:";
 const NUMBERS: [&str; 29] = [
     "0",
     "1",
@@ -80,24 +80,34 @@ pub fn leaf(rng: &mut Rng) -> Tree {
     }
 }
 
+/// `and` or `then` over so many leaves.
+fn spans(rng: &mut Rng, leaves: u32, leaf: fn(&mut Rng) -> Tree) -> Tree {
+    let op = rng.pick(&[Op::And, Op::Then]);
+    Tree::Op { op, k: 0, operands: (0..leaves).map(|_| leaf(rng)).collect() }
+}
+
+/// The same over a few.
+fn few_spans(rng: &mut Rng) -> Tree {
+    let leaves = rng.range(2, 4);
+    spans(rng, leaves, leaf)
+}
+
 /// A tree of at most `nodes` nodes and `depth` deep.
 pub fn tree(rng: &mut Rng, nodes: usize, depth: usize) -> Tree {
     if nodes < 2 || depth < 2 || rng.once_in(8) {
         return leaf(rng);
     }
-    let op = if nodes == 2 { Op::Max } else { OPS[rng.below(6)].0 };
-    let count = match op {
-        Op::Max => 1,
-        Op::Less => 2,
-        _ if rng.once_in(6) => rng.range(2, (nodes - 1).min(31) as u32) as usize,
-        _ => rng.range(2, (nodes - 1).min(3) as u32) as usize,
-    };
+    let op = if nodes == 2 { Op::Max } else { rng.pick(&OPS).0 };
+    let (least, most) = op.takes();
+    let few = if rng.once_in(6) { most } else { most.min(3) };
+    let count = rng.range(least, few.min(nodes as u32 - 1)) as usize;
     let mut left = nodes - 1;
     let mut operands = Vec::new();
     for i in 0..count {
         let later = count - i - 1;
         let share = if later == 0 { left } else { 1 + rng.below(left - later) };
-        let operand = tree(rng, share, depth - 1);
+        let around = matches!(op, Op::In | Op::Out) && i == 1 && share > 4 && depth > 2 && rng.once_in(2);
+        let operand = if around { few_spans(rng) } else { tree(rng, share, depth - 1) };
         left -= operand.nodes();
         operands.push(operand);
     }
@@ -114,18 +124,69 @@ pub fn tree(rng: &mut Rng, nodes: usize, depth: usize) -> Tree {
 /// A pattern whose answers overlap in most logs: `and` or `then` over few leaves, alone or below another operator.
 pub fn crossing(rng: &mut Rng) -> Tree {
     let over = |op, k, operands| Tree::Op { op, k, operands };
-    let spans = |rng: &mut Rng| {
-        let (op, leaves) = (rng.pick(&[Op::And, Op::Then]), rng.range(2, 4));
-        over(op, 0, (0..leaves).map(|_| leaf(rng)).collect())
-    };
-    let first = spans(rng);
-    match rng.below(8) {
+    let first = few_spans(rng);
+    match rng.below(10) {
         0 => over(Op::Max, rng.range(1, 12), vec![first]),
         1 => over(Op::Less, 0, vec![first, leaf(rng)]),
         2 => over(Op::Or, 0, vec![first, leaf(rng)]),
-        3 => over(rng.pick(&[Op::Or, Op::And, Op::Row, Op::Then]), 0, vec![first, spans(rng)]),
+        3 => over(rng.pick(&[Op::Or, Op::And, Op::Row, Op::Then]), 0, vec![first, few_spans(rng)]),
+        4 => over(rng.pick(&[Op::In, Op::Out]), 0, vec![first, few_spans(rng)]),
+        5 => over(Op::Has, 0, vec![first, leaf(rng)]),
         _ => first,
     }
+}
+
+/// A pattern with `in`, `out` or `has`, which in most logs keep some of their stretches and drop some: alone, below other operators, or as B of
+/// one more.
+pub fn insides(rng: &mut Rng) -> Tree {
+    fn common(rng: &mut Rng) -> Tree {
+        let (code, frame) = (rng.pick(&CODES), rng.pick(&FRAMES));
+        if rng.once_in(3) {
+            Tree::Fr { frame, lane: 0 }
+        } else {
+            Tree::Ev { code, lane: 0 }
+        }
+    }
+    fn rare(rng: &mut Rng) -> Tree {
+        Tree::Ev { code: rng.pick(&CODES), lane: rng.pick(&LANES) }
+    }
+    let over = |op, operands| Tree::Op { op, k: 0, operands };
+    let short = |rng: &mut Rng| if rng.once_in(2) { common(rng) } else { spans(rng, 2, common) };
+    let long = |rng: &mut Rng| {
+        let leaves = rng.range(2, 3);
+        spans(rng, leaves, rare)
+    };
+    let chosen = |rng: &mut Rng| match rng.pick(&[Op::In, Op::Out, Op::Has]) {
+        Op::Has => over(Op::Has, vec![long(rng), short(rng)]),
+        op => over(op, vec![short(rng), long(rng)]),
+    };
+    let first = chosen(rng);
+    match rng.below(8) {
+        0 => over(Op::Then, vec![over(Op::And, vec![first, common(rng)]), common(rng)]),
+        1 => over(rng.pick(&[Op::In, Op::Out]), vec![short(rng), over(Op::And, vec![first, rare(rng)])]),
+        2 => over(rng.pick(&[Op::In, Op::Out, Op::Has, Op::Less]), vec![short(rng), first]),
+        3 => over(rng.pick(&[Op::Or, Op::And, Op::Row, Op::Then]), vec![first, chosen(rng)]),
+        _ => first,
+    }
+}
+
+/// A tree with other operators.
+pub fn with_ops(tree: Tree, other: &dyn Fn(Op) -> Op) -> Tree {
+    match tree {
+        Tree::Op { op, k, operands } => {
+            Tree::Op { op: other(op), k, operands: operands.into_iter().map(|operand| with_ops(operand, other)).collect() }
+        }
+        leaf => leaf,
+    }
+}
+
+/// A tree with each `in` made a `has` and each `out` a `less`: what surrounds a run changes nothing of its stretches within it.
+pub fn by_runs(tree: Tree) -> Tree {
+    with_ops(tree, &|op| match op {
+        Op::In => Op::Has,
+        Op::Out => Op::Less,
+        _ => op,
+    })
 }
 
 /// One small change to a text.
@@ -164,9 +225,9 @@ pub fn pattern(rng: &mut Rng) -> Vec<u8> {
     let (nodes, depth) = rng.pick(&[(4, 3), (12, 4), (32, 8), (32, 8), (33, 8), (34, 9), (60, 12), (200, 30)]);
     let mut text = tree(rng, nodes, depth).spell().into_bytes();
     if rng.once_in(12) {
-        let k = rng.pick(&["max,9,", "max,65535,", "less,ev,1,0,", "and,2,fr,0,0,"]);
+        let before = ["max,9,", "max,65535,", "less,ev,1,0,", "and,2,fr,0,0,", "in,ev,1,0,", "out,ev,1,0,", "has,fr,0,0,", "in,2,ev,1,0,"];
         let times = if rng.once_in(3) { rng.below(200) } else { rng.below(9) };
-        text.splice(0..0, k.repeat(times).into_bytes());
+        text.splice(0..0, rng.pick(&before).repeat(times).into_bytes());
     }
     for _ in 0..rng.pick(&[0, 0, 1, 1, 1, 2, 3]) {
         spoil(rng, &mut text);
@@ -269,7 +330,7 @@ pub fn sparse(rng: &mut Rng, gap: usize, most: usize) -> Vec<u8> {
 /// A rising list of at most `count` stretches below `limit`.
 pub fn list(rng: &mut Rng, count: usize, limit: u32) -> List {
     let mut list: List = Vec::new();
-    let (gap, reach) = (rng.pick(&[1, 2, 6]), rng.pick(&[0, 1, 5]));
+    let (gap, reach) = (rng.pick(&[1, 2, 6]), rng.pick(&[0, 1, 5, 20]));
     let (mut s, mut e) = (rng.range(0, gap), 0);
     for _ in 0..count {
         e = (s + rng.range(0, reach)).max(e + u32::from(!list.is_empty()));

@@ -20,7 +20,7 @@ fn agree<T: PartialEq + std::fmt::Debug>(what: &str, a: T, b: T, input: impl FnO
 /// after it. (2 is in every range, and a numeral that is no value itself becomes one by a further 0, if at all.)
 fn starts_some_pattern(text: &str) -> bool {
     let piece = text.rfind(',').map_or(0, |at| at + 1);
-    let mut wholes: Vec<String> = ["ev", "fr", "or", "and", "row", "then", "less", "max", "2"]
+    let mut wholes: Vec<String> = ["ev", "fr", "or", "and", "row", "then", "less", "max", "in", "out", "has", "2"]
         .iter()
         .filter(|word| word.starts_with(&text[piece..]))
         .map(|word| format!("{}{word}", &text[..piece]))
@@ -51,7 +51,8 @@ pub fn reference(t: &Trial) -> Outcome {
     for _ in 0..t.rounds(4_000) {
         let lines = rng.below(24);
         let log = inputs::log(&mut rng, lines, 4);
-        let pattern = inputs::tree(&mut rng, 14, 6).spell();
+        let tree = if rng.once_in(4) { inputs::insides(&mut rng) } else { inputs::tree(&mut rng, 14, 6) };
+        let pattern = tree.spell();
         let input = || format!("{pattern}\n  {}", compare::show(&log));
         agree("literal and quick", reference::answers(pattern.as_bytes(), &log), quick::answers(pattern.as_bytes(), &log), input)?;
         let mut quick_lines = Vec::new();
@@ -80,14 +81,8 @@ pub fn reference(t: &Trial) -> Outcome {
         }
     }
     for _ in 0..t.rounds(4_000) {
-        let op = OPS[rng.below(6)].0;
-        let n = if op == Op::Max {
-            1
-        } else if op == Op::Less {
-            2
-        } else {
-            2 + rng.below(4)
-        };
+        let (op, _, (least, most)) = rng.pick(&OPS);
+        let n = rng.range(least, most.min(5));
         let lists: Vec<List> = (0..n).map(|_| inputs::list(&mut rng, 7, 25)).collect();
         let input = || format!("{op:?} {lists:?}");
         let literal = reference::apply(op, 3, &lists, &reference::length);

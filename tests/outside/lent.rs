@@ -7,13 +7,9 @@ use std::cmp::Reverse;
 
 /// Refusals 6 to 8 in order; else the lists.
 pub fn read_lists(op: u32, k: u32, items: &[u32], ends: &[u32]) -> Result<(Op, Vec<List>), Refusal> {
-    let lists_allowed = match op {
-        6 => 1..=1,
-        5 => 2..=2,
-        _ => 2..=31,
-    };
-    let k_allowed = if op == 6 { 1..=65_535 } else { 0..=0 };
-    if !(1..=6).contains(&op) || !lists_allowed.contains(&ends.len()) || !k_allowed.contains(&k) {
+    let Some(&(op, _, (least, most))) = OPS.get((op as usize).wrapping_sub(1)) else { return refused(6) };
+    let k_allowed = if op == Op::Max { 1..=65_535 } else { 0..=0 };
+    if !(least as usize..=most as usize).contains(&ends.len()) || !k_allowed.contains(&k) {
         return refused(6);
     }
     let fits = ends.iter().all(|end| end % 2 == 0) && ends.windows(2).all(|w| w[0] <= w[1]);
@@ -28,7 +24,7 @@ pub fn read_lists(op: u32, k: u32, items: &[u32], ends: &[u32]) -> Result<(Op, V
     if !lists.iter().all(ordered) {
         return refused(8);
     }
-    Ok((OPS[op as usize - 1].0, lists))
+    Ok((op, lists))
 }
 
 /// The same for the taking call.

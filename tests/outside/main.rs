@@ -10,6 +10,8 @@ mod digit_faults;
 mod digits;
 mod faults;
 mod inputs;
+mod inside_faults;
+mod insides;
 mod itself;
 mod lane_faults;
 mod lanes;
@@ -31,6 +33,7 @@ mod witness_faults;
 mod witness_inputs;
 mod witness_laws;
 mod witnesses;
+mod worked_insides;
 mod worked_spells;
 mod worked_witnesses;
 
@@ -55,7 +58,7 @@ pub type Outcome = Result<usize, String>;
 type Group = (&'static str, fn(&Trial) -> Outcome);
 
 /// Groups that try the calls on seeded inputs.
-const SEEDED: [Group; 28] = [
+const SEEDED: [Group; 29] = [
     ("patterns", over_logs::patterns),
     ("lines", over_logs::lines),
     ("logs", over_logs::logs),
@@ -84,9 +87,10 @@ const SEEDED: [Group; 28] = [
     ("laws of witnesses", witness_laws::laws),
     ("witnesses in runs", witness_laws::runs),
     ("digit values", digits::values),
+    ("laws of insides", insides::laws),
 ];
 
-const FIXED: [Group; 10] = [
+const FIXED: [Group; 11] = [
     ("reference", itself::reference),
     ("worked cases", itself::cases),
     ("lane fields", lanes::cases),
@@ -97,6 +101,7 @@ const FIXED: [Group; 10] = [
     ("log alone", log_alone::cases),
     ("worked picks", picking::cases),
     ("worked witnesses", worked_witnesses::cases),
+    ("worked insides", worked_insides::cases),
 ];
 
 /// Runs all groups on the archive; gives the number that failed.

@@ -8,12 +8,9 @@ use crate::{quick, Outcome, Trial};
 
 /// Lists for an operator, short ones most often.
 fn random_lists(rng: &mut Rng, op: Op) -> Vec<List> {
-    let count = match op {
-        Op::Max => 1,
-        Op::Less => 2,
-        _ if rng.once_in(10) => rng.range(2, 31),
-        _ => rng.range(2, 4),
-    };
+    let (least, most) = op.takes();
+    let few = if rng.once_in(10) { most } else { most.min(4) };
+    let count = rng.range(least, few);
     let limit = rng.pick(&[4, 12, 30]);
     (0..count)
         .map(|_| {
@@ -33,7 +30,7 @@ pub fn lists(t: &Trial) -> Outcome {
     let mut rng = Rng(11);
     let mut count = 0;
     for _ in 0..t.rounds(5_000) {
-        let op = OPS[rng.below(6)].0;
+        let op = rng.pick(&OPS).0;
         let (items, ends) = inputs::lend(&random_lists(&mut rng, op));
         let k = if op == Op::Max { rng.pick(&[1, 2, 3, 5, 65_535]) } else { 0 };
         let lent = Lists { op: op as u32, k, items: &items, ends: &ends };
@@ -43,14 +40,10 @@ pub fn lists(t: &Trial) -> Outcome {
             count += 1;
         }
     }
-    for round in 0..t.rounds(48).max(6) {
-        let op = OPS[round % 6].0;
-        let lists = match op {
-            Op::Max => 1,
-            Op::Less => 2,
-            _ => rng.pick(&[2, 3, 31]),
-        };
-        let lists: Vec<List> = (0..lists).map(|_| inputs::list(&mut rng, 70_000 / lists, 65_536)).collect();
+    for round in 0..t.rounds(72).max(OPS.len()) {
+        let (op, _, (least, most)) = OPS[round % OPS.len()];
+        let lists = rng.pick(&[2, 3, 31]).clamp(least, most);
+        let lists: Vec<List> = (0..lists).map(|_| inputs::list(&mut rng, 70_000 / lists as usize, 65_536)).collect();
         let (items, ends) = inputs::lend(&lists);
         let k = if op == Op::Max { 3 } else { 0 };
         let lent = Lists { op: op as u32, k, items: &items, ends: &ends };
@@ -66,7 +59,7 @@ pub fn lists(t: &Trial) -> Outcome {
 
 /// A number at the edges of the rules.
 fn edge(rng: &mut Rng) -> u32 {
-    rng.pick(&[0, 1, 2, 3, 5, 6, 7, 30, 31, 32, 65_534, 65_535, 65_536, 65_537, 1 << 31, u32::MAX - 1, u32::MAX])
+    rng.pick(&[0, 1, 2, 3, 5, 6, 7, 9, 10, 30, 31, 32, 65_534, 65_535, 65_536, 65_537, 1 << 31, u32::MAX - 1, u32::MAX])
 }
 
 /// One or two changes to a call's numbers and lists.
@@ -74,9 +67,9 @@ fn spoil(rng: &mut Rng, op: &mut u32, k: &mut u32, items: &mut Vec<u32>, ends: &
     for _ in 0..rng.range(1, 2) {
         let at = rng.next() as usize;
         let near = rng.pick(&[1, 2, 3, u32::MAX, u32::MAX - 1]);
-        match rng.below(14) {
-            0 => *op = rng.pick(&[0, 7, 8, 256, 257, u32::MAX]),
-            1 => *op = rng.range(0, 7),
+        match rng.below(16) {
+            0 => *op = rng.pick(&[0, 10, 11, 256, 257, u32::MAX]),
+            1 => *op = rng.range(0, 10),
             2 => *k = edge(rng),
             3 => ends.truncate(at % 3),
             4 => {
@@ -101,6 +94,8 @@ fn spoil(rng: &mut Rng, op: &mut u32, k: &mut u32, items: &mut Vec<u32>, ends: &
                 let i = at % (items.len() - 2);
                 items[i + 2] = items[i];
             }
+            12 => *k = rng.range(0, 2),
+            13 => *k = rng.range(65_534, 65_537),
             _ if !items.is_empty() => {
                 let i = at % items.len();
                 items[i] = items[i].wrapping_add(near);
@@ -115,7 +110,7 @@ pub fn spoiled(t: &Trial) -> Outcome {
     let mut rng = Rng(12);
     let rounds = t.rounds(60_000);
     for _ in 0..rounds {
-        let kind = OPS[rng.below(6)].0;
+        let kind = rng.pick(&OPS).0;
         let (mut items, mut ends) = inputs::lend(&random_lists(&mut rng, kind));
         let (mut op, mut k) = (kind as u32, if kind == Op::Max { rng.range(1, 4) } else { 0 });
         spoil(&mut rng, &mut op, &mut k, &mut items, &mut ends);

@@ -2,7 +2,7 @@
 
 use crate::compare::{self, Checked, Search};
 use crate::inputs::{self, Rng};
-use crate::reference::{self, List, Op, Stretch, Tree, LOG_MAX, PATTERN_MAX};
+use crate::reference::{self, List, Op, Stretch, Tree, LOG_MAX, OPS, PATTERN_MAX};
 use crate::shown::ENOUGH;
 use crate::witnesses::{self, Witness};
 use crate::{quick, Outcome, Trial};
@@ -13,16 +13,27 @@ pub const SHEET_LOG: &[u8] = b"1,4,7,3,6\n2,4,12,20,3,0\noops\n1,4,9,0,0\n1,5,9,
 /// Matches every sound line: one leaf for each frame.
 pub const SOUND: &str = "or,11,fr,0,0,fr,1,0,fr,2,0,fr,3,0,fr,4,0,fr,5,0,fr,6,0,fr,7,0,fr,8,0,fr,9,0,fr,10,0";
 
-/// Texts as patterns over one small log: every start and every single edit of a few patterns, then random ones.
+/// Texts as patterns over one small log: every start and every single edit of a few patterns, every start of an operator's word before
+/// operands, and with a letter more, then random ones.
 pub fn patterns(t: &Trial) -> Outcome {
     let mut rng = Rng(1);
-    let bases = ["then,2,ev,7,0,ev,9,0", "max,65535,or,31,ev,255,99", "less,fr,10,9,row,2,fr,0,10,ev,25,1", "and,2,max,9,ev,1,0,fr,3,4"];
+    let bases = [
+        "then,2,ev,7,0,ev,9,0",
+        "max,65535,or,31,ev,255,99",
+        "less,fr,10,9,row,2,fr,0,10,ev,25,1",
+        "and,2,max,9,ev,1,0,fr,3,4",
+        "out,has,fr,3,0,ev,7,4,in,ev,9,0,fr,0,0",
+    ];
     let mut texts: Vec<Vec<u8>> = Vec::new();
     for base in bases.map(str::as_bytes) {
         texts.extend((0..=base.len()).map(|n| base[..n].to_vec()));
         texts.extend(inputs::edits(base));
     }
     texts = texts.into_iter().step_by(t.part).collect();
+    for (_, word, _) in OPS {
+        let starts = (0..=word.len()).flat_map(|n| ["", "t"].map(|letter| format!("{}{letter},ev,7,0,ev,9,0", &word[..n])));
+        texts.extend(starts.map(String::into_bytes));
+    }
     texts.extend((0..t.rounds(40_000)).map(|_| inputs::pattern(&mut rng)));
     for text in &texts {
         let cells = rng.below(12);
@@ -84,7 +95,8 @@ pub fn logs(t: &Trial) -> Outcome {
         let lines = rng.below(16);
         let damage = rng.pick(&[0, 3, 8]);
         let log = inputs::log(&mut rng, lines, damage);
-        let pattern = inputs::tree(&mut rng, 12, 5).spell().into_bytes();
+        let tree = if rng.once_in(4) { inputs::insides(&mut rng) } else { inputs::tree(&mut rng, 12, 5) };
+        let pattern = tree.spell().into_bytes();
         let search = Search::new(t.calls, &pattern, &log, reference::answers);
         for (cells, from) in compare::around(search.found()) {
             search.fill(&mut rng, cells, from)?;
@@ -117,8 +129,9 @@ pub fn long(t: &Trial) -> Outcome {
         }
         log.truncate(LOG_MAX);
         let nodes = rng.pick(&[6, 16, 32]);
-        let pattern = inputs::tree(&mut rng, nodes, 8).spell();
-        check(&mut rng, pattern.as_bytes(), &log)?;
+        for tree in [inputs::tree(&mut rng, nodes, 8), inputs::insides(&mut rng)] {
+            check(&mut rng, tree.spell().as_bytes(), &log)?;
+        }
     }
     for byte in *b"\n1,\0" {
         check(&mut rng, SOUND.as_bytes(), &vec![byte; LOG_MAX])?;
@@ -131,7 +144,7 @@ pub fn bounds(t: &Trial) -> Outcome {
     let mut rng = Rng(5);
     let mut texts: Vec<Vec<u8>> = ["", "ev,1,0", "ev,256,0", "or,1,ev,1,0", "or,2,ev,1,0"].map(Into::into).to_vec();
     for deep in 6..10 {
-        texts.push(("max,9,".repeat(deep) + "ev,1,0").into());
+        texts.extend(["max,9,", "in,ev,1,0,", "out,ev,7,0,", "has,ev,1,0,"].map(|over| (over.repeat(deep) + "ev,1,0").into()));
     }
     for leaves in 2..=31 {
         let or = format!("or,{leaves}{}", ",ev,1,0".repeat(leaves));
@@ -139,6 +152,7 @@ pub fn bounds(t: &Trial) -> Outcome {
             [or.clone(), format!("max,2,{or}"), format!("and,2,{or},{or}"), format!("less,{or},{or},"), format!("max,9,{or}x")]
                 .map(Into::into),
         );
+        texts.extend(["in", "out", "has"].map(|word| format!("{word},{or},{or}").into()));
     }
     for length in PATTERN_MAX - 9..PATTERN_MAX + 9 {
         let (pieces, longer) = ((length - 6) / 6, (length - 6) % 6);
@@ -159,7 +173,7 @@ pub fn bounds(t: &Trial) -> Outcome {
 }
 
 /// Demand 3 through the calls alone: the stretches wholly within a run, counted from its first line, are the list of the run alone,
-/// in two logs that hold it at two places.
+/// in two logs that hold it at two places, of a pattern without `in` and `out`.
 pub fn runs(t: &Trial) -> Outcome {
     let mut rng = Rng(6);
     let whole = |rng: &mut Rng, most: usize| {
@@ -168,7 +182,8 @@ pub fn runs(t: &Trial) -> Outcome {
     };
     for _ in 0..t.rounds(6_000) {
         let most = if rng.once_in(40) { 1_000 } else { 20 };
-        let pattern = inputs::tree(&mut rng, 14, 6).spell().into_bytes();
+        let tree = if rng.once_in(4) { inputs::insides(&mut rng) } else { inputs::tree(&mut rng, 14, 6) };
+        let pattern = inputs::by_runs(tree).spell().into_bytes();
         let run = whole(&mut rng, most);
         let alone = compare::whole(t.calls, &pattern, &run);
         for _ in 0..2 {

@@ -26,6 +26,7 @@ pub struct Plain {
     pub sound_lines: fn(&[Option<Record>], Stretch) -> u32,
     pub over_lists: fn(&Plain, Op, u32, &[List]) -> List,
     pub lists: fn(u32, u32, &[u32], &[u32]) -> Result<(Op, Vec<List>), Refusal>,
+    pub takes: fn(u32) -> bool,
     pub take_or: fn(&[List], u64) -> Taken,
     pub take_and: fn(&[List], u64) -> Taken,
     pub fill: fn(&Result<List, Refusal>, &mut [u32], u64) -> u64,
@@ -56,6 +57,7 @@ pub const RIGHT: Plain = Plain {
     sound_lines: r::sound_lines,
     over_lists: |parts, op, k, lists| (parts.apply)(op, k, lists, &r::length),
     lists: lent::read_lists,
+    takes: |op| (1..=2).contains(&op),
     take_or: lent::take_or_by_algorithm,
     take_and: lent::take_and,
     fill: r::fill,
@@ -112,7 +114,7 @@ impl Calls for Plain {
     }
 
     fn lists_take(&self, op: u32, items: &[u32], ends: &[u32], counts: &mut [u32], number: u64) -> u64 {
-        let miscalled = !(1..=2).contains(&op) || counts.len() < ends.len();
+        let miscalled = !(self.takes)(op) || counts.len() < ends.len();
         let lists = if miscalled { refused(6) } else { (self.lists)(op, 0, items, ends) };
         let taken = lists.map(|(op, lists)| (if op == Op::Or { self.take_or } else { self.take_and })(&lists, number));
         (self.take)(&taken, counts)

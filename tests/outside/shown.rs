@@ -51,17 +51,25 @@ pub fn outermost(pattern: &[u8], log: &[u8]) -> Result<Node, Refusal> {
 pub type Below<'a> = Vec<(&'a Node, Stretch)>;
 
 /// What is shown directly below a node for its stretch `a`: by `or` the first operand that has the same stretch, by `and` each operand's
-/// first stretch inside, by `row` and `then` one after another, by `less` and `max` A's.
+/// first stretch inside, by `row` and `then` one after another, by `less`, `max` and `out` A's, by `in` also B's first that holds it, and by
+/// `has` B's first inside.
 pub fn below(node: &Node, a: Stretch) -> Below<'_> {
     let operands = node.operands.iter();
     let first_inside = |operand: &Node| operand.list.iter().copied().find(|&b| inside(b, a));
+    let first_around = |operand: &Node| operand.list.iter().copied().find(|&b| inside(a, b));
+    let with_b = |first: &dyn Fn(&Node) -> Option<Stretch>| {
+        let (of_a, of_b) = (&node.operands[0], &node.operands[1]);
+        [Some((of_a, a)), first(of_b).map(|b| (of_b, b))].into_iter().flatten().collect()
+    };
     match node.op {
         None => vec![],
         Some(Op::Or) => operands.filter(|operand| operand.list.contains(&a)).take(1).map(|operand| (operand, a)).collect(),
         Some(Op::And) => operands.filter_map(|operand| first_inside(operand).map(|b| (operand, b))).collect(),
         Some(Op::Row) => in_turn(node, a, |before, b| b.s == before.e + 1),
         Some(Op::Then) => in_turn(node, a, |before, b| b.s > before.e),
-        Some(Op::Less | Op::Max) => operands.take(1).map(|operand| (operand, a)).collect(),
+        Some(Op::Less | Op::Max | Op::Out) => operands.take(1).map(|operand| (operand, a)).collect(),
+        Some(Op::In) => with_b(&first_around),
+        Some(Op::Has) => with_b(&first_inside),
     }
 }
 
@@ -137,15 +145,19 @@ pub fn quick_outermost(pattern: &[u8], log: &[u8]) -> Result<Node, Refusal> {
     quick::search(pattern, log, |tree, leaves, before| quick_node(tree, &mut 0, leaves, before), |root| &root.list)
 }
 
-/// What is shown directly below a node for its stretch `a`. Each stretch is its operand's first from a line on: by `or` and `and` from the
-/// start of `a`, by `row` and `then` from the line after the one before.
+/// What is shown directly below a node for its stretch `a`. Each stretch is its operand's first from a line on: by `or`, `and` and `has` from
+/// the start of `a`, by `row` and `then` from the line after the one before. That of B by `in` is the first that ends from the end of `a` on.
 pub fn quick_below(node: &Node, a: Stretch) -> Below<'_> {
     let first_from = |operand: &Node, line: u32| operand.list.get(operand.list.partition_point(|b| b.s < line)).copied();
+    let first_to = |operand: &Node, line: u32| operand.list.get(operand.list.partition_point(|b| b.e < line)).copied();
     let mut all = Vec::with_capacity(node.operands.len());
     let mut line = a.s;
     for operand in &node.operands {
         match (node.op, first_from(operand, line)) {
-            (Some(Op::Less | Op::Max), _) => return vec![(operand, a)],
+            (Some(Op::Less | Op::Max | Op::Out), _) => return vec![(operand, a)],
+            (Some(Op::In | Op::Has), _) if all.is_empty() => all.push((operand, a)),
+            (Some(Op::In), _) => all.extend(first_to(operand, a.e).map(|b| (operand, b))),
+            (Some(Op::Has), Some(b)) => all.push((operand, b)),
             (Some(Op::Or), Some(b)) if b == a => return vec![(operand, b)],
             (Some(Op::Or), _) => {}
             (Some(Op::And), Some(b)) => all.push((operand, b)),

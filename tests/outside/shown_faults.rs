@@ -9,7 +9,7 @@ pub type Variants = Vec<(&'static str, Plain)>;
 
 /// The wrong variants.
 pub fn variants() -> Variants {
-    [over_or(), over_and(), over_turns(), over_filters()].concat()
+    [over_or(), over_and(), over_turns(), over_filters(), over_in(), over_out_and_has()].concat()
 }
 
 fn by(below: Way) -> Plain {
@@ -37,6 +37,19 @@ fn first(node: &Node, like: impl Fn(Stretch) -> bool) -> Option<Stretch> {
 /// The last of them.
 fn last(node: &Node, like: impl Fn(Stretch) -> bool) -> Option<Stretch> {
     node.list.iter().rev().copied().find(|&b| like(b))
+}
+
+/// Below an operator A's stretch, and of B what `choose` finds.
+fn with_b(op: Op, node: &Node, a: Stretch, choose: fn(&Node, Stretch) -> Option<Stretch>) -> Below<'_> {
+    at(op, node, a, || {
+        let b = &node.operands[1];
+        [(&node.operands[0], a)].into_iter().chain(choose(b, a).map(|c| (b, c))).collect()
+    })
+}
+
+/// A's first stretch.
+fn of_a(node: &Node, a: Stretch) -> Below<'_> {
+    vec![(&node.operands[0], first(&node.operands[0], |_| true).unwrap_or(a))]
 }
 
 /// The operand of an `or`.
@@ -146,25 +159,84 @@ fn over_turns() -> Variants {
 
 /// Below `less` and `max`.
 fn over_filters() -> Variants {
-    /// A's stretch, and B's first that is like this.
-    fn with_b(node: &Node, a: Stretch, like: fn(Stretch, Stretch) -> bool) -> Below<'_> {
-        at(Op::Less, node, a, || {
-            let b = &node.operands[1];
-            [(&node.operands[0], a)].into_iter().chain(first(b, |c| like(c, a)).map(|c| (b, c))).collect()
-        })
-    }
-    /// A's first stretch.
-    fn of_a(node: &Node, a: Stretch) -> Below<'_> {
-        vec![(&node.operands[0], first(&node.operands[0], |_| true).unwrap_or(a))]
-    }
     vec![
-        ("less showing B's node", by(|node, a| at(Op::Less, node, a, || node.operands.iter().map(|o| (o, a)).collect()))),
-        ("less showing B's first stretch", by(|node, a| with_b(node, a, |_, _| true))),
-        ("less showing what of B shares a line with it", by(|node, a| with_b(node, a, r::share_line))),
-        ("less showing what of B it lies in", by(|node, a| with_b(node, a, |b, a| inside(a, b)))),
+        ("less showing B's node", by(|node, a| with_b(Op::Less, node, a, |_, a| Some(a)))),
+        ("less showing B's first stretch", by(|node, a| with_b(Op::Less, node, a, |b, _| first(b, |_| true)))),
+        ("less showing what of B shares a line with it", by(|node, a| with_b(Op::Less, node, a, |b, a| first(b, |c| r::share_line(c, a))))),
+        ("less showing what of B it lies in", by(|node, a| with_b(Op::Less, node, a, |b, a| first(b, |c| inside(a, c))))),
         ("less showing nothing below", by(|node, a| at(Op::Less, node, a, Vec::new))),
         ("max showing nothing below", by(|node, a| at(Op::Max, node, a, Vec::new))),
         ("less showing A's first stretch", by(|node, a| at(Op::Less, node, a, || of_a(node, a)))),
         ("max showing A's first stretch", by(|node, a| at(Op::Max, node, a, || of_a(node, a)))),
+    ]
+}
+
+/// A and B of an `in`.
+fn over_in() -> Variants {
+    /// What is right with another stretch of A.
+    fn with_a(node: &Node, a: Stretch, other: impl Fn(&Below) -> Stretch) -> Below<'_> {
+        at(Op::In, node, a, || {
+            let mut all = (RIGHT.below)(node, a);
+            all[0].1 = other(&all);
+            all
+        })
+    }
+    vec![
+        ("in showing nothing of B", by(|node, a| with_b(Op::In, node, a, |_, _| None))),
+        ("in showing the last of B that holds it", by(|node, a| with_b(Op::In, node, a, |b, a| last(b, |c| inside(a, c))))),
+        ("in showing B's first stretch", by(|node, a| with_b(Op::In, node, a, |b, _| first(b, |_| true)))),
+        ("in showing what of B shares a line with it", by(|node, a| with_b(Op::In, node, a, |b, a| first(b, |c| r::share_line(c, a))))),
+        ("in showing what of B starts before it", by(|node, a| with_b(Op::In, node, a, |b, a| first(b, |c| c.s <= a.s)))),
+        ("in showing what of B ends after it", by(|node, a| with_b(Op::In, node, a, |b, a| first(b, |c| c.e > a.e)))),
+        ("in showing what of B is inside it", by(|node, a| with_b(Op::In, node, a, |b, a| first(b, |c| inside(c, a))))),
+        ("in showing of B its own stretch", by(|node, a| with_b(Op::In, node, a, |_, a| Some(a)))),
+        ("in showing no equal one of B", by(|node, a| with_b(Op::In, node, a, |b, a| first(b, |c| c != a && inside(a, c))))),
+        ("in showing the shortest of B that holds it", {
+            by(|node, a| {
+                with_b(Op::In, node, a, |b, a| b.list.iter().copied().filter(|&c| inside(a, c)).min_by_key(|&c| (r::length(c), c.s)))
+            })
+        }),
+        ("in showing every one of B that holds it", {
+            by(|node, a| {
+                at(Op::In, node, a, || {
+                    let b = &node.operands[1];
+                    let all = b.list.iter().filter(|&&c| inside(a, c)).map(|&c| (b, c));
+                    [(&node.operands[0], a)].into_iter().chain(all).collect()
+                })
+            })
+        }),
+        ("in showing B alone", by(|node, a| at(Op::In, node, a, || (RIGHT.below)(node, a).split_off(1)))),
+        ("in showing B before A", by(|node, a| at(Op::In, node, a, || (RIGHT.below)(node, a).into_iter().rev().collect()))),
+        ("in showing nothing below", by(|node, a| at(Op::In, node, a, Vec::new))),
+        ("in showing of A what it shows of B", by(|node, a| with_a(node, a, |all| all[all.len() - 1].1))),
+        ("in showing A's first stretch", by(|node, a| with_a(node, a, |all| first(all[0].0, |_| true).unwrap_or(all[0].1)))),
+    ]
+}
+
+/// A and B of an `out` and of a `has`.
+fn over_out_and_has() -> Variants {
+    vec![
+        ("out showing B's first stretch", by(|node, a| with_b(Op::Out, node, a, |b, _| first(b, |_| true)))),
+        ("out showing what of B shares a line with it", by(|node, a| with_b(Op::Out, node, a, |b, a| first(b, |c| r::share_line(c, a))))),
+        ("out showing what of B is inside it", by(|node, a| with_b(Op::Out, node, a, |b, a| first(b, |c| inside(c, a))))),
+        ("out showing of B its own stretch", by(|node, a| with_b(Op::Out, node, a, |_, a| Some(a)))),
+        ("out showing nothing below", by(|node, a| at(Op::Out, node, a, Vec::new))),
+        ("out showing A's first stretch", by(|node, a| at(Op::Out, node, a, || of_a(node, a)))),
+        ("has showing nothing of B", by(|node, a| with_b(Op::Has, node, a, |_, _| None))),
+        ("has showing the last of B inside it", by(|node, a| with_b(Op::Has, node, a, |b, a| last(b, |c| inside(c, a))))),
+        ("has showing B's first stretch", by(|node, a| with_b(Op::Has, node, a, |b, _| first(b, |_| true)))),
+        ("has showing what of B shares a line with it", by(|node, a| with_b(Op::Has, node, a, |b, a| first(b, |c| r::share_line(c, a))))),
+        ("has showing what of B it lies in", by(|node, a| with_b(Op::Has, node, a, |b, a| first(b, |c| inside(a, c))))),
+        ("has showing of B its own stretch", by(|node, a| with_b(Op::Has, node, a, |_, a| Some(a)))),
+        ("has showing no equal one of B", by(|node, a| with_b(Op::Has, node, a, |b, a| first(b, |c| c != a && inside(c, a))))),
+        ("has showing the longest of B inside it", {
+            by(|node, a| {
+                with_b(Op::Has, node, a, |b, a| {
+                    b.list.iter().copied().filter(|&c| inside(c, a)).max_by_key(|&c| (r::length(c), Reverse(c.s)))
+                })
+            })
+        }),
+        ("has showing nothing below", by(|node, a| at(Op::Has, node, a, Vec::new))),
+        ("has showing A's first stretch", by(|node, a| at(Op::Has, node, a, || of_a(node, a)))),
     ]
 }

@@ -289,6 +289,17 @@ fn joined(node: &Tree, lists: &[List], of: Op, joins: impl Fn(u32, u32) -> bool)
     matches!(node, Tree::Op { op, .. } if *op == of && short).then(spans)
 }
 
+/// The list of a tree in a log, where an operator passes over those of B that hold a damaged line.
+fn passing_over(tree: &Tree, log: &[u8], of: Op) -> List {
+    otherwise(tree, log, |lines, node, lists| {
+        let sound = |a: &Stretch| r::sound_lines(lines, *a) == r::length(*a);
+        matches!(node, Tree::Op { op, .. } if *op == of).then(|| {
+            let others = lists[1].iter().copied().filter(sound).collect();
+            applied(node, &[lists[0].clone(), others], &r::length)
+        })
+    })
+}
+
 /// Patterns measured here by sound lines and there otherwise, and operators that treat damaged lines otherwise.
 fn over_patterns() -> Vec<(&'static str, Plain)> {
     let list = |list| Plain { list, ..RIGHT };
@@ -315,6 +326,9 @@ fn over_patterns() -> Vec<(&'static str, Plain)> {
         ("max over then by all lines", list(|_, _, tree, log| by_lines_over(tree, log, Op::Then))),
         ("max over less by all lines", list(|_, _, tree, log| by_lines_over(tree, log, Op::Less))),
         ("max over max by all lines", list(|_, _, tree, log| by_lines_over(tree, log, Op::Max))),
+        ("max over in by all lines", list(|_, _, tree, log| by_lines_over(tree, log, Op::In))),
+        ("max over out by all lines", list(|_, _, tree, log| by_lines_over(tree, log, Op::Out))),
+        ("max over has by all lines", list(|_, _, tree, log| by_lines_over(tree, log, Op::Has))),
         ("max of a leaf finding nothing", {
             list(|_, _, tree, log| {
                 otherwise(tree, log, |_, node, _| match node {
@@ -352,17 +366,10 @@ fn over_patterns() -> Vec<(&'static str, Plain)> {
                 })
             })
         }),
-        ("less passing over stretches with damaged lines", {
-            list(|_, _, tree, log| {
-                otherwise(tree, log, |lines, node, lists| {
-                    let sound = |a: &Stretch| r::sound_lines(lines, *a) == r::length(*a);
-                    matches!(node, Tree::Op { op: Op::Less, .. }).then(|| {
-                        let others = lists[1].iter().copied().filter(sound).collect();
-                        applied(node, &[lists[0].clone(), others], &r::length)
-                    })
-                })
-            })
-        }),
+        ("less passing over stretches with damaged lines", list(|_, _, tree, log| passing_over(tree, log, Op::Less))),
+        ("in passing over stretches with damaged lines", list(|_, _, tree, log| passing_over(tree, log, Op::In))),
+        ("out passing over stretches with damaged lines", list(|_, _, tree, log| passing_over(tree, log, Op::Out))),
+        ("has passing over stretches with damaged lines", list(|_, _, tree, log| passing_over(tree, log, Op::Has))),
     ]
 }
 

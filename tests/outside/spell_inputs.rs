@@ -130,7 +130,7 @@ fn without_max(rng: &mut Rng) -> Tree {
         0 => inputs::tree(rng, 8, 3),
         1..=3 => spans(rng, rare),
         _ => {
-            let op = rng.pick(&[Op::Or, Op::And, Op::Row, Op::Row, Op::Then, Op::Less]);
+            let op = rng.pick(&[Op::Or, Op::And, Op::Row, Op::Row, Op::Then, Op::Less, Op::In, Op::Out, Op::Has]);
             Tree::Op { op, k: 0, operands: vec![spans(rng, rare), spans(rng, rare)] }
         }
     }

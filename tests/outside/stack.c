@@ -13,8 +13,10 @@
 enum { STACK = 1 << 20, GAP = 1 << 14, PAINT = 0xa5 };
 
 /* Eight deep, and each operator once; in the second all of these take part in an answer, which is three lines. */
-static const char pattern[] = "max,9,less,max,9,or,2,and,2,then,2,row,2,ev,1,0,ev,2,0,ev,3,0,ev,4,0,fr,1,0,ev,7,0";
-static const char threes[] = "max,9,less,max,9,or,2,and,2,then,2,row,2,ev,1,0,fr,1,0,ev,1,4,fr,1,4,ev,3,0,ev,7,0";
+static const char pattern[] = "max,9,less,in,or,2,and,2,then,2,row,2,ev,1,0,ev,2,0,ev,3,0,ev,4,0,fr,1,0,"
+                              "out,has,fr,1,0,ev,1,0,ev,7,0,ev,7,0";
+static const char threes[] = "max,9,less,in,or,2,and,2,then,2,row,2,ev,1,0,fr,1,0,ev,1,4,fr,1,4,ev,3,0,"
+                             "out,has,row,3,ev,1,0,ev,1,0,ev,1,0,fr,1,0,ev,7,0,ev,7,0";
 static uint8_t log_bytes[FINDER_LOG_MAX];
 static size_t log_len, sound; /* the sound lines come first */
 static uint32_t cells[2 * FINDER_LOG_MAX], items[2 * FINDER_LISTS_MAX], ends[FINDER_LISTS_MAX], counts[FINDER_LISTS_MAX];
@@ -39,7 +41,7 @@ static int pick(void)
 static int witness(void)
 {
     return finder_witness((const uint8_t *)threes, sizeof threes - 1, log_bytes, log_len, sound - 3, cells, 2 * FINDER_LOG_MAX)
-        == (uint64_t)11 << 32;
+        == (uint64_t)18 << 32;
 }
 
 static int count(void) { return finder_counted_lines(finder_count(log_bytes, log_len)) == log_len / 10; }

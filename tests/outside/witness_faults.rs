@@ -10,7 +10,7 @@ use std::cmp::Reverse;
 
 /// The wrong variants.
 pub fn variants() -> Variants {
-    [shown_faults::variants(), over_reading(), over_numbers(), over_answers(), over_parts(), triple_faults::variants()].concat()
+    [shown_faults::variants(), over_reading(), over_numbers(), over_answers(), over_parts(), over_b(), triple_faults::variants()].concat()
 }
 
 /// A log read in another way than by the other calls.
@@ -151,7 +151,7 @@ fn over_answers() -> Variants {
         (
             "the number counted among A's stretches",
             showing(|_, root, number| match root.op {
-                Some(Op::Less | Op::Max) => {
+                Some(op) if op.filters() => {
                     let answer = usize::try_from(number).ok().and_then(|number| root.operands[0].list.get(number));
                     answer.map_or(vec![], |&a| shown::shown(root, a, RIGHT.below))
                 }
@@ -192,9 +192,7 @@ fn over_parts() -> Variants {
                 only(root, number, |_, part| part.stretch.s < start + 64)
             }),
         ),
-        ("filters left out", {
-            showing(|_, root, number| only(root, number, |_, part| !matches!(kind(root, part.node), Some(Op::Less | Op::Max))))
-        }),
+        ("filters left out", showing(|_, root, number| only(root, number, |_, part| !kind(root, part.node).is_some_and(Op::filters)))),
         ("16 triples at most", showing(|_, root, number| only(root, number, |i, _| i < 16))),
         ("31 triples at most", showing(|_, root, number| only(root, number, |i, _| i < 31))),
         (
@@ -228,5 +226,39 @@ fn over_parts() -> Variants {
                 shown(root, number).into_iter().map(later).collect()
             }),
         ),
+    ]
+}
+
+/// What `in` and `has` show of B, and the spans above it.
+fn over_b() -> Variants {
+    /// What is shown without what is below B of an operator.
+    fn cut_at_b(root: &Node, number: u64, op: Op) -> Vec<Triple> {
+        let mut nodes = Vec::new();
+        read(root, 0, &mut nodes);
+        let below_b = |part: &Triple| {
+            let all_b = nodes.iter().filter(|(node, _)| node.op == Some(op)).map(|(node, _)| &node.operands[1]);
+            all_b.into_iter().any(|b| b.number < part.node && part.node <= last(b))
+        };
+        shown(root, number).into_iter().filter(|part| !below_b(part)).collect()
+    }
+    /// What is shown, each node for which `of` holds with the span of all that is shown of it.
+    fn spanned(root: &Node, number: u64, of: impl Fn(&Node) -> bool) -> Vec<Triple> {
+        let mut nodes = Vec::new();
+        read(root, 0, &mut nodes);
+        let all = shown(root, number);
+        let span = |part: &Triple| {
+            let node = &nodes[part.node as usize].0;
+            let parts = all.iter().filter(|other| of(node) && (node.number..=last(node)).contains(&other.node));
+            let stretch = parts.fold(part.stretch, |a, b| Stretch { s: a.s.min(b.stretch.s), e: a.e.max(b.stretch.e) });
+            Triple { stretch, ..*part }
+        };
+        all.iter().map(span).collect()
+    }
+    vec![
+        ("in showing nothing below B", showing(|_, root, number| cut_at_b(root, number, Op::In))),
+        ("has showing nothing below B", showing(|_, root, number| cut_at_b(root, number, Op::Has))),
+        ("in's span taken with B", showing(|_, root, number| spanned(root, number, |node| node.op == Some(Op::In)))),
+        ("the spans above in taken with B", showing(|_, root, number| spanned(root, number, |node| node.op != Some(Op::In)))),
+        ("every span taken with B", showing(|_, root, number| spanned(root, number, |_| true))),
     ]
 }

@@ -5,23 +5,27 @@ use crate::inputs::{self, Rng};
 use crate::reference::{Op, Tree, LOG_MAX};
 use crate::spell_inputs::{self, finds};
 
-/// An operator over one or two operands, and others beside them where it takes more: leaves, the first one again, or its operands below an
-/// operator that has stretches in common with it.
+/// An operator over one or two operands, and others beside them where it takes more: leaves, the first one again, its operands below an
+/// operator that has stretches in common with it, or what holds some of its stretches.
 fn over(rng: &mut Rng, mut operands: Vec<Tree>) -> Tree {
     let op = match operands.len() {
-        1 => rng.pick(&[Op::Or, Op::Or, Op::And, Op::And, Op::Row, Op::Then, Op::Then, Op::Less, Op::Max]),
-        _ => rng.pick(&[Op::Or, Op::And, Op::Row, Op::Then, Op::Less]),
+        1 => rng.pick(&[Op::Or, Op::Or, Op::And, Op::And, Op::Row, Op::Then, Op::Then, Op::Less, Op::Max, Op::In, Op::Out, Op::Has]),
+        _ => rng.pick(&[Op::Or, Op::And, Op::Row, Op::Then, Op::Less, Op::In, Op::Out, Op::Has]),
     };
     if op == Op::Max {
         return Tree::Op { op, k: rng.pick(&[1, 3, 12, 100]), operands };
     }
-    let count = if op == Op::Less { 2 } else { rng.range(2, 4) as usize };
+    let (least, most) = op.takes();
+    let count = rng.range(least, most.min(4)) as usize;
     operands.truncate(count);
     while operands.len() < count {
         let beside = match (rng.below(6), operands[0].clone()) {
             (0, other) => other,
             (1 | 2, Tree::Op { op: Op::And | Op::Then | Op::Row, operands, .. }) => {
                 Tree::Op { op: rng.pick(&[Op::And, Op::Then, Op::Row]), k: 0, operands }
+            }
+            (3 | 4, other) if matches!(op, Op::In | Op::Out | Op::Has) => {
+                Tree::Op { op: rng.pick(&[Op::And, Op::Then]), k: 0, operands: vec![other, inputs::leaf(rng)] }
             }
             _ => inputs::leaf(rng),
         };
@@ -51,10 +55,11 @@ fn grown(rng: &mut Rng, log: &[u8]) -> Tree {
 
 /// An accepted pattern that mostly finds something in a log.
 pub fn finding(rng: &mut Rng, log: &[u8]) -> Tree {
-    match rng.below(8) {
+    match rng.below(10) {
         0 => inputs::tree(rng, 32, 8),
         1 => inputs::crossing(rng),
         2 => spell_inputs::with_max(rng, log),
+        3 | 4 => inputs::insides(rng),
         _ => grown(rng, log),
     }
 }

@@ -3,7 +3,7 @@
 use crate::calls::Calls;
 use crate::compare::{self, Checked};
 use crate::inputs::{self, Rng};
-use crate::reference::{self, Op, Stretch, Tree};
+use crate::reference::{self, inside, Op, Stretch, Tree};
 use crate::shown::{Triple, ENOUGH};
 use crate::witness_inputs::{finding, some_log};
 use crate::{Outcome, Trial};
@@ -53,11 +53,20 @@ fn hold(calls: &dyn Calls, tree: &Tree, log: &[u8], number: u64, fewer: usize) -
         let below: Vec<Triple> = parts.iter().copied().filter(|part| operands.contains(&(part.node as usize))).collect();
         let expected = match tree {
             Tree::Op { op: Op::Or, .. } => below.len() == 1,
-            Tree::Op { op: Op::Less | Op::Max, .. } => below.len() == 1 && below[0].node as usize == operands[0],
-            Tree::Op { op: Op::And | Op::Row | Op::Then, .. } | Tree::Ev { .. } | Tree::Fr { .. } => below.len() == operands.len(),
+            Tree::Op { op: Op::Less | Op::Max | Op::Out, .. } => below.len() == 1 && below[0].node as usize == operands[0],
+            Tree::Op { op: Op::And | Op::Row | Op::Then | Op::In | Op::Has, .. } | Tree::Ev { .. } | Tree::Fr { .. } => {
+                below.len() == operands.len()
+            }
         };
         law(expected, "too many or too few operands are shown")?;
-        law(operands.is_empty() || span(&below) == Some(part.stretch), "a stretch is not the span of those shown directly below it")?;
+        // What `in` and `has` show of B is no part of the span.
+        let (proved, spanned) = match tree {
+            Tree::Op { op: Op::In, .. } => (inside(part.stretch, below[1].stretch), &below[..1]),
+            Tree::Op { op: Op::Has, .. } => (inside(below[1].stretch, part.stretch), &below[..1]),
+            _ => (true, &below[..]),
+        };
+        law(proved, "what `in` shows of B does not hold the stretch, or what `has` shows is not inside it")?;
+        law(operands.is_empty() || span(spanned) == Some(part.stretch), "a stretch is not the span of those shown directly below it")?;
     }
     law(rest.iter().all(|&cell| cell == 77), "a cell after the triples is changed")?;
     let (result, start, rest) = call(calls, &pattern, log, (number, fewer));
@@ -83,15 +92,15 @@ pub fn laws(t: &Trial) -> Outcome {
     Ok(count)
 }
 
-/// What is shown of an answer within a run is what is shown of it in the run alone, whatever stands before and after: every stretch shown lies inside the
-/// answer, and what of a list lies within the run is decided by the run.
+/// What is shown of an answer within a run is what is shown of it in the run alone, whatever stands before and after, of a pattern without `in`
+/// and `out`: every stretch shown lies inside the answer, and what of a list lies within the run is decided by the run.
 pub fn runs(t: &Trial) -> Outcome {
     let mut rng = Rng(65);
     let mut count = 0;
     for _ in 0..t.rounds(6_000) {
         let [before, run, after] = [12, 40, 12].map(|most| inputs::ended(some_log(&mut rng, most)));
         let log = [&before[..], &run, &after].concat();
-        let pattern = finding(&mut rng, &run).spell().into_bytes();
+        let pattern = inputs::by_runs(finding(&mut rng, &run)).spell().into_bytes();
         let (lines, alone) = (reference::lines(&before).len() as u32, compare::whole(t.calls, &pattern, &run).unwrap_or_default());
         let all = compare::whole(t.calls, &pattern, &log).unwrap_or_default();
         for (number, a) in alone.iter().enumerate().take(12) {

@@ -13,6 +13,9 @@ const LOG: &str = "1,4,7,3,6\n1,4,9,3,0\n1,4,7,3,0\n1,4,2,4,8\noops\n1,4,9,4,0\n
 /// In that log [0..1], [1..2], [2..5] and [5..6].
 const AND: &str = "and,2,ev,7,0,ev,9,0";
 
+/// In that log [0..1] and [2..5].
+const THEN: &str = "then,2,ev,7,0,ev,9,0";
+
 /// Nine nodes, with two answers in that log.
 const NINE: &str = "less,and,2,then,2,ev,7,0,ev,9,0,or,2,fr,4,0,ev,2,0,ev,12,0";
 
@@ -61,6 +64,7 @@ pub fn cases(t: &Trial) -> Outcome {
     and(&mut check)?;
     in_turn(&mut check)?;
     filters(&mut check)?;
+    insides(&mut check)?;
     bounds(&mut check)?;
     refusals(&mut check)?;
     Ok(count)
@@ -175,12 +179,63 @@ fn filters(check: Check) -> Checked {
     in_log(check, cases)
 }
 
+/// `in` shows the first of B that holds its stretch, which may reach out of the answer, `has` the first inside, and `out` none.
+fn insides(check: Check) -> Checked {
+    let cases: &[(String, u64, Parts)] = &[
+        (format!("in,ev,2,0,{THEN}"), 0, &[(0, 3, 3), (1, 3, 3), (2, 2, 5), (3, 2, 2), (4, 5, 5)]),
+        (format!("in,ev,2,0,{THEN}"), 1, &[]),
+        // Of two that hold it the first: line 1 is in [0..1] and [1..2], line 2 in [1..2] and [2..5], line 5 in [2..5] and [5..6].
+        (format!("in,fr,3,0,{AND}"), 1, &[(0, 1, 1), (1, 1, 1), (2, 0, 1), (3, 0, 0), (4, 1, 1)]),
+        (format!("in,fr,3,0,{AND}"), 2, &[(0, 2, 2), (1, 2, 2), (2, 1, 2), (3, 2, 2), (4, 1, 1)]),
+        (format!("in,ev,9,0,{AND}"), 1, &[(0, 5, 5), (1, 5, 5), (2, 2, 5), (3, 2, 2), (4, 5, 5)]),
+        (format!("in,ev,7,0,{AND}"), 2, &[(0, 6, 6), (1, 6, 6), (2, 5, 6), (3, 6, 6), (4, 5, 5)]),
+        // An equal one, also behind [1..2], which only shares a line.
+        (format!("in,{THEN},{AND}"), 1, &[(0, 2, 5), (1, 2, 5), (2, 2, 2), (3, 5, 5), (4, 2, 5), (5, 2, 2), (6, 5, 5)]),
+        (format!("in,{AND},{THEN}"), 1, &[(0, 2, 5), (1, 2, 5), (2, 2, 2), (3, 5, 5), (4, 2, 5), (5, 2, 2), (6, 5, 5)]),
+        ("in,ev,9,0,fr,4,0".into(), 0, &[(0, 5, 5), (1, 5, 5), (2, 5, 5)]),
+        // B's [2..5] is no part of the span [3..6].
+        (format!("and,2,in,ev,2,0,{THEN},ev,7,5"), 0, &[(0, 3, 6), (1, 3, 3), (2, 3, 3), (3, 2, 5), (4, 2, 2), (5, 5, 5), (6, 6, 6)]),
+        (format!("then,2,in,ev,2,0,{THEN},ev,9,0"), 0, &[(0, 3, 5), (1, 3, 3), (2, 3, 3), (3, 2, 5), (4, 2, 2), (5, 5, 5), (6, 5, 5)]),
+        // B an `in`, an `out` and an `or`, each with what it shows.
+        (
+            format!("in,fr,4,0,in,{AND},{THEN}"),
+            0,
+            &[(0, 3, 3), (1, 3, 3), (2, 2, 5), (3, 2, 5), (4, 2, 2), (5, 5, 5), (6, 2, 5), (7, 2, 2), (8, 5, 5)],
+        ),
+        (format!("in,ev,2,0,out,{THEN},ev,12,0"), 0, &[(0, 3, 3), (1, 3, 3), (2, 2, 5), (3, 2, 5), (4, 2, 2), (5, 5, 5)]),
+        ("in,ev,9,0,or,3,fr,5,0,ev,9,5,fr,4,0".into(), 0, &[(0, 5, 5), (1, 5, 5), (2, 5, 5), (5, 5, 5)]),
+        // `out` shows nothing of B, also where B shares lines or lies inside; B's nodes are counted.
+        (format!("out,ev,7,0,{THEN}"), 0, &[(0, 6, 6), (1, 6, 6)]),
+        (format!("out,{AND},{THEN}"), 0, &[(0, 1, 2), (1, 1, 2), (2, 2, 2), (3, 1, 1)]),
+        (format!("out,{AND},ev,2,0"), 2, &[(0, 2, 5), (1, 2, 5), (2, 2, 2), (3, 5, 5)]),
+        (format!("or,2,out,ev,7,0,{THEN},ev,2,0"), 0, &[(0, 3, 3), (6, 3, 3)]),
+        (format!("or,2,out,ev,7,0,{THEN},ev,2,0"), 1, &[(0, 6, 6), (1, 6, 6), (2, 6, 6)]),
+        // Of 3 and 5, both inside [2..5], the first; inside [1..5] the first is [1..2], though B begins with [0..1].
+        (format!("has,{AND},fr,4,0"), 0, &[(0, 2, 5), (1, 2, 5), (2, 2, 2), (3, 5, 5), (4, 3, 3)]),
+        (format!("has,{AND},fr,4,0"), 1, &[(0, 5, 6), (1, 5, 6), (2, 6, 6), (3, 5, 5), (4, 5, 5)]),
+        (format!("has,{AND},fr,4,0"), 2, &[]),
+        (format!("has,then,2,ev,9,0,ev,9,0,{AND}"), 0, &[(0, 1, 5), (1, 1, 5), (2, 1, 1), (3, 5, 5), (4, 1, 2), (5, 2, 2), (6, 1, 1)]),
+        (format!("has,{AND},{THEN}"), 1, &[(0, 2, 5), (1, 2, 5), (2, 2, 2), (3, 5, 5), (4, 2, 5), (5, 2, 2), (6, 5, 5)]),
+        // What `in` shows of B within what `has` shows of B.
+        (
+            format!("has,{AND},in,ev,2,0,{THEN}"),
+            0,
+            &[(0, 2, 5), (1, 2, 5), (2, 2, 2), (3, 5, 5), (4, 3, 3), (5, 3, 3), (6, 2, 5), (7, 2, 2), (8, 5, 5)],
+        ),
+    ];
+    cases.iter().try_for_each(|(pattern, number, due)| check(pattern, LOG, *number, Ok(due)))
+}
+
 /// Patterns of 32 nodes and 8 deep, numbers beyond the last answer, damaged lines in the answer, and the largest log.
 fn bounds(check: Check) -> Checked {
     let leaves = |operator: &str, leaf: &str| format!("{operator},31{}", format!(",{leaf}").repeat(31));
     let all = |of: &dyn Fn(u32) -> (u32, u32)| -> Vec<(u32, u32, u32)> { (0..32).map(|node| (node, of(node).0, of(node).1)).collect() };
     let sevens = "1,4,7,3,6\n".repeat(40);
     check(&leaves("and", "fr,3,0"), LOG, 1, Ok(&all(&|_| (1, 1))))?;
+    let of = |n: usize| format!("and,{n}{}", ",fr,3,0".repeat(n));
+    for word in ["in", "has"] {
+        check(&format!("{word},{},{}", of(15), of(14)), LOG, 1, Ok(&all(&|_| (1, 1))))?;
+    }
     check(&leaves("or", "ev,9,0"), LOG, 1, Ok(&[(0, 5, 5), (1, 5, 5)]))?;
     check(&(format!("or,31{}", ",ev,1,0".repeat(30)) + ",ev,9,0"), LOG, 1, Ok(&[(0, 5, 5), (31, 5, 5)]))?;
     for operator in ["row", "then"] {
