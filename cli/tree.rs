@@ -40,13 +40,13 @@ fn take<'a>(words: &mut impl Iterator<Item = &'a str>, depth: usize, nodes: &mut
     let numbers = match word {
         "ev" | "fr" => vec![words.next()?, words.next()?],
         "or" | "and" | "row" | "then" | "max" => vec![words.next()?],
-        "less" => vec![],
+        "less" | "in" | "out" | "has" => vec![],
         _ => return None,
     };
     let operands = match word {
         "ev" | "fr" => 0,
         "max" => 1,
-        "less" => 2,
+        "less" | "in" | "out" | "has" => 2,
         _ => numbers[0].parse().ok()?,
     };
     nodes.push(Node { depth, spelt: [vec![word], numbers].concat().join(","), leaf: operands == 0, stretch: None });

@@ -21,10 +21,10 @@
 #include <stddef.h>
 #include <stdint.h>
 
-#define FINDER_VERSION "1.4.1"
+#define FINDER_VERSION "1.5.0"
 #define FINDER_VERSION_MAJOR 1
-#define FINDER_VERSION_MINOR 4
-#define FINDER_VERSION_PATCH 1
+#define FINDER_VERSION_MINOR 5
+#define FINDER_VERSION_PATCH 0
 
 #ifdef __cplusplus
 extern "C" {
@@ -43,7 +43,7 @@ enum {
 };
 
 /* The stack that is enough for a call, in bytes: FINDER_STACK_FILL for finder_fill, finder_pick and finder_witness, FINDER_STACK_OTHERS for
-   every other. Measured, these three take some 275,000, whatever the log, finder_count 7,600, finder_lists_fill 2,600, finder_lines and
+   every other. Measured, these three take some 275,000, whatever the log, finder_count 7,600, finder_lists_fill 3,000, finder_lines and
    finder_lists_take less than 600; in a program's first call the dynamic linker takes up to 3,300 more. */
 enum { FINDER_STACK_FILL = 320 * 1024, FINDER_STACK_OTHERS = 16 * 1024 };
 
@@ -65,7 +65,17 @@ enum {
 };
 
 /* Operators over lists. */
-enum { FINDER_OR = 1, FINDER_AND = 2, FINDER_ROW = 3, FINDER_THEN = 4, FINDER_LESS = 5, FINDER_MAX = 6 };
+enum {
+    FINDER_OR = 1,
+    FINDER_AND = 2,
+    FINDER_ROW = 3,
+    FINDER_THEN = 4,
+    FINDER_LESS = 5,
+    FINDER_MAX = 6,
+    FINDER_IN = 7,
+    FINDER_OUT = 8,
+    FINDER_HAS = 9
+};
 
 /* The stretches of a pattern in a log. Writes answers from number `from` (the first is 0) into cells, start line then end line, as many
    as whole pairs fit; later cells keep their contents. There are never more answers than lines, so two cells for each line of the log
@@ -89,9 +99,11 @@ uint64_t finder_pick(const uint8_t *pattern, size_t pattern_len, const uint8_t *
 /* The nodes of a pattern that took part in its answer number `number` (the first is 0) in a log, each with its stretch. Nodes count from 0 as
    the pattern is read: a node before its operands, and these in their order. Writes node, start line and end line for each into cells, in
    node order, as many as whole triples fit; later cells keep their contents. Three cells for each node of the pattern are enough, so
-   3 * FINDER_NODES_MAX for any. The first is node 0 with the answer itself; an operator's stretch is exactly the span of those of its operands that
-   took part. docs/FORMATS.md says which do. A number beyond the last answer writes nothing and is not refused; with three cells or more,
-   0 triples of an accepted call say that there is no such answer.
+   3 * FINDER_NODES_MAX for any. The first is node 0 with the answer itself; an operator's stretch is exactly the span of those of its
+   operands that took part, where of `in` and `has` the first operand's alone counts. What `in` shows of its second contains that stretch
+   and may reach beyond the answer; what `has` shows of its second lies inside it. docs/FORMATS.md says which operands take part. A number
+   beyond the last answer writes nothing and is not refused; with three cells or more, 0 triples of an accepted call say that there is no
+   such answer.
 
    Result as for finder_fill, the triples as the stretches written; bit 8 is always 0. */
 uint64_t finder_witness(const uint8_t *pattern, size_t pattern_len, const uint8_t *log, size_t log_len, uint64_t number,
@@ -109,8 +121,9 @@ uint64_t finder_count(const uint8_t *log, size_t log_len);
 uint64_t finder_lines(const uint8_t *log, size_t log_len, uint32_t first, uint32_t last);
 
 /* As finder_fill, over lists of stretches. items holds start and end in turn, list after list, so item_count is two a stretch; ends holds, for
-   each list, the place in items where it ends. k is 1 to FINDER_BOUND_MAX for FINDER_MAX and 0 for every other operator. FINDER_MAX takes 1 list, FINDER_LESS 2,
-   the others 2 to FINDER_LISTS_MAX. item_count cells hold all answers. Result as for finder_fill. */
+   each list, the place in items where it ends. k is 1 to FINDER_BOUND_MAX for FINDER_MAX and 0 for every other operator. FINDER_MAX takes 1
+   list; FINDER_LESS, FINDER_IN, FINDER_OUT and FINDER_HAS take 2, the list chosen from first; the others take 2 to FINDER_LISTS_MAX.
+   item_count cells hold all answers. Result as for finder_fill. */
 uint64_t finder_lists_fill(uint32_t op, uint32_t k, const uint32_t *items, size_t item_count,
                            const uint32_t *ends, size_t list_count, uint32_t *cells, size_t cell_count, uint64_t from);
 
