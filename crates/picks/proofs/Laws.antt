@@ -61,9 +61,9 @@ module _ (a b c d : ℕ) where
   below-false : below a b c d ≡ false → UpTo b a d c
   below-false h = let p = or-false (ltb a b) (eqb a b && ltb c d) h in (ltb-false a b (p .0), λ e. let i = eq-eqb a b (sym e) in ltb-false c d cc)
 
--- x is no longer than y and, of equal lengths, starts no later
+-- x is no longer than y and, of equal lengths, starts no earlier
 abbrev pub Leads : Stretch → Stretch → Type 0
-Leads x y = (lengthOf x ≤ lengthOf y) × (lengthOf x ≡ lengthOf y → x .start ≤ y .start)
+Leads x y = (lengthOf x ≤ lengthOf y) × (lengthOf x ≡ lengthOf y → y .start ≤ x .start)
 
 -- x leads y, and y leads z, which is [s..e]
 leads-trans : (x y z : Stretch) (s e : ℕ) → (s ≡ z .start) × (e ≡ z .end) → Leads x y → Leads y z → Leads x (st s e)
@@ -72,8 +72,8 @@ leads-trans x y z s e h p q = (omega arith, λ k. omega (arith, p .1 (omega arit
 -- the one ahead of two leads both
 ahead-both : (x y : Stretch) → Leads (cond (ahead y x) y x) x × Leads (cond (ahead y x) y x) y
 ahead-both x y = cases (ahead y x) (λ b. Leads (cond b y x) x × Leads (cond b y x) y)
-    (λ k. (below-true (lengthOf y) (lengthOf x) (y .start) (x .start) k, (omega arith, λ e. omega arith)))
-    (λ k. ((omega arith, λ e. omega arith), below-false (lengthOf y) (lengthOf x) (y .start) (x .start) k))
+    (λ k. (below-true (lengthOf y) (lengthOf x) (x .start) (y .start) k, (omega arith, λ e. omega arith)))
+    (λ k. ((omega arith, λ e. omega arith), below-false (lengthOf y) (lengthOf x) (x .start) (y .start) k))
 
 -- the shortest is one of the list
 pub shortest-in : (x : Stretch) (l : List Stretch) → In (shortest x l .start) (shortest x l .end) (x ∷ l)
@@ -85,7 +85,7 @@ shortest-in x (y ∷ l) = cases (ahead y x) (λ b. In (shortest (cond b y x) l .
     past (inl h) = inl h
     past (inr m) = inr (inr m)
 
--- it is no longer than any of the list and, of equal lengths, starts no later
+-- it is no longer than any of the list and, of equal lengths, starts no earlier
 pub shortest-least : (x : Stretch) (l : List Stretch) (s e : ℕ) → In s e (x ∷ l) → Leads (shortest x l) (st s e)
 shortest-least x [] s e (inl h) = (omega arith, λ k. omega arith)
 shortest-least x [] s e (inr m) = absurd m

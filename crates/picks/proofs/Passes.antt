@@ -4,7 +4,7 @@ use mathlib.Core.Path.{_≡_, refl, sym, ap, ap₂, subst, _∙_}
 use mathlib.Core.Logic.{_⊎_, inl, inr}
 use mathlib.Core.Bool.{Bool, true, false, cond, _&&_, _||_}
 use mathlib.Core.List.{List, [], _∷_}
-use lib.Dec.{leb, ltb, eqb}
+use lib.Dec.{leb, ltb}
 use lib.ListN.{length, getD, take, drop, replicate, length-take, drop-of-length-le}
 use lib.Seq.{drop-cons, getD-take}
 use borrow.Author.Tests.{ltb-true, ltb-false, lt-ltb, le-ltb, leb-true, leb-false, le-leb, lt-leb, eq-eqb, ne-eqb}
@@ -33,13 +33,13 @@ answers-lie src rows good s e m = let f = fine src rows good 0 (omega arith) in 
 
 module _ (x y : Stretch) (hx : x .start ≤ x .end) (hy : y .start ≤ y .end) where
   pub ahead-shorter : x .end - x .start < y .end - y .start → true ≡ ahead x y
-  ahead-shorter h = sym (ap (λ b. b || (eqb (lengthOf x) (lengthOf y) && ltb (x .start) (y .start))) (lt-ltb (lengthOf x) (lengthOf y) (omega arith)))
+  ahead-shorter h = simp (lt-ltb (lengthOf x) (lengthOf y) (omega arith))
 
   pub ahead-longer : y .end - y .start < x .end - x .start → false ≡ ahead x y
-  ahead-longer h = sym (ap₂ (λ a b. a || (b && ltb (x .start) (y .start))) (le-ltb (lengthOf x) (lengthOf y) (omega arith)) (ne-eqb (lengthOf x) (lengthOf y) (λ z. omega arith)))
+  ahead-longer h = simp (le-ltb (lengthOf x) (lengthOf y) (omega arith), ne-eqb (lengthOf x) (lengthOf y) (λ z. omega arith))
 
-  pub ahead-alike : y .end - y .start ≤ x .end - x .start → x .end - x .start ≤ y .end - y .start → ltb (x .start) (y .start) ≡ ahead x y
-  ahead-alike h k = sym (ap₂ (λ a b. a || (b && ltb (x .start) (y .start))) (le-ltb (lengthOf x) (lengthOf y) (omega arith)) (eq-eqb (lengthOf x) (lengthOf y) (omega arith)))
+  pub ahead-alike : y .end - y .start ≤ x .end - x .start → x .end - x .start ≤ y .end - y .start → ltb (y .start) (x .start) ≡ ahead x y
+  ahead-alike h k = simp (le-ltb (lengthOf x) (lengthOf y) (omega arith), eq-eqb (lengthOf x) (lengthOf y) (omega arith))
 
 -- the best of a list, one after another
 abbrev bestOf : Front → List Stretch → Front

@@ -7,9 +7,9 @@ use lib.Dec.{ltb, eqb}
 use Rattle.stretches.specs.Stretch.{Stretch, st, keep, lengthOf}
 use Rattle.stretches.specs.Run.{inRun}
 
--- x is shorter than y; of equal lengths, it starts earlier
+-- x is shorter than y; of equal lengths, it starts later
 abbrev pub ahead : Stretch → Stretch → Bool
-ahead x y = ltb (lengthOf x) (lengthOf y) || (eqb (lengthOf x) (lengthOf y) && ltb (x .start) (y .start))
+ahead x y = ltb (lengthOf x) (lengthOf y) || (eqb (lengthOf x) (lengthOf y) && ltb (y .start) (x .start))
 
 -- the shortest of x and a list
 abbrev pub shortest : Stretch → List Stretch → Stretch
@@ -28,8 +28,8 @@ picksOf (suc k) (x ∷ l) = shortest x l ∷ picksOf k (keep (apart (shortest x 
 
 -- ── Examples ──
 
--- of equal lengths the earlier; a line shared is enough to drop an answer
-ex-picks : picksOf 16 (st 0 2 ∷ st 2 3 ∷ st 3 4 ∷ st 4 7 ∷ st 8 12 ∷ []) ≡ st 2 3 ∷ st 4 7 ∷ st 8 12 ∷ []
+-- of equal lengths the later; a line shared is enough to drop an answer
+ex-picks : picksOf 16 (st 0 2 ∷ st 2 3 ∷ st 3 4 ∷ st 4 7 ∷ st 8 12 ∷ []) ≡ st 3 4 ∷ st 0 2 ∷ st 8 12 ∷ []
 unfolding picksOf
 ex-picks = refl
 
@@ -37,7 +37,7 @@ ex-picks = refl
 abbrev exAnswers : List Stretch
 exAnswers = st 0 1 ∷ st 1 2 ∷ st 2 4 ∷ st 4 5 ∷ st 5 6 ∷ []
 
-ex-log : picksOf 2 exAnswers ≡ st 0 1 ∷ st 4 5 ∷ []
+ex-log : picksOf 2 exAnswers ≡ st 5 6 ∷ st 1 2 ∷ []
 unfolding picksOf
 ex-log = refl
 

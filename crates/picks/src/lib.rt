@@ -62,7 +62,7 @@ fn next_pick(cells: &[u32], n: usize, t: u32) -> Front
     r
 }
 
-// Whether f is picked before g: it is shorter, or as long and starts earlier.
+// Whether f is picked before g: it is shorter, or as long and starts later.
 fn is_ahead(f: Front, g: Front) -> bool
     requires { ⌜ (f .start ≤ f .end) × (g .start ≤ g .end) ⌝ }
     ensures { λ r. ⌜ r ≡ ahead (st (f .start) (f .end)) (st (g .start) (g .end)) ⌝ }
@@ -75,7 +75,7 @@ fn is_ahead(f: Front, g: Front) -> bool
     if y < x {
         return false;
     }
-    f.start < g.start
+    g.start < f.start
 }
 
 // The best so far, none at first, or a further answer that is picked before it.
