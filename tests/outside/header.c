@@ -88,8 +88,8 @@ static void limits(void)
     uint32_t cells[6] = {9, 9, 9, 9, 9, 9};
     CHECK(finder_refusal(picks(0, cells, 6)) == FINDER_BAD_COUNT && finder_refusal(picks(FINDER_PICKS_MAX + 1, cells, 6)) == FINDER_BAD_COUNT && cells[0] == 9);
     CHECK(finder_refusal(picks(1, cells, 0)) == FINDER_ACCEPTED && finder_refusal(picks(FINDER_PICKS_MAX, cells, 0)) == FINDER_ACCEPTED);
-    CHECK(finder_written(picks(2, cells, 6)) == 2 && cells[0] == 0 && cells[1] == 0 && cells[2] == 1 && cells[3] == 1 && cells[4] == 9);
-    CHECK(finder_written(picks(FINDER_PICKS_MAX, cells, 6)) == 3 && cells[4] == 2 && cells[5] == 2);
+    CHECK(finder_written(picks(2, cells, 6)) == 2 && cells[0] == 2 && cells[1] == 2 && cells[2] == 1 && cells[3] == 1 && cells[4] == 9);
+    CHECK(finder_written(picks(FINDER_PICKS_MAX, cells, 6)) == 3 && cells[4] == 0 && cells[5] == 0);
 }
 
 /* The operators that choose among a list's stretches by those of a second list, and that there is none behind the last. */

@@ -29,9 +29,23 @@ fn taken(picked: &[Stretch], a: Stretch) -> bool {
     picked.iter().any(|&pick| r::share_line(pick, a))
 }
 
+/// Up to k picks, one by `first` and the others by `then`.
+fn picks_in_turn<K: Ord, L: Ord>(k: usize, answers: &[Stretch], first: impl Fn(&Stretch) -> K, then: impl Fn(&Stretch) -> L) -> List {
+    let mut picked = other_picks(k.min(1), answers, first, taken);
+    let remaining: List = answers.iter().copied().filter(|&a| !taken(&picked, a)).collect();
+    picked.extend(other_picks(k - picked.len(), &remaining, then, taken));
+    picked
+}
+
+/// The number of lines of an answer.
+fn length(a: &Stretch) -> u32 {
+    a.e - a.s + 1
+}
+
 /// The wrong variants.
 pub fn variants() -> Vec<(&'static str, Plain)> {
     let mut all = over_choosing();
+    all.extend(over_ties());
     all.extend(over_counts());
     all.extend(over_handing_back());
     all
@@ -39,19 +53,15 @@ pub fn variants() -> Vec<(&'static str, Plain)> {
 
 /// Wrong picks.
 fn over_choosing() -> Vec<(&'static str, Plain)> {
-    fn length(a: &Stretch) -> u32 {
-        a.e - a.s + 1
-    }
     vec![
-        ("the longest picked first", by_picks!(|k, answers| other_picks(k, answers, |a| (Reverse(length(a)), a.s), taken))),
-        ("of equal lengths the later start", by_picks!(|k, answers| other_picks(k, answers, |a| (length(a), Reverse(a.s)), taken))),
+        ("the longest picked first", by_picks!(|k, answers| other_picks(k, answers, |a| Reverse((length(a), a.s)), taken))),
         ("lengths by the end alone", by_picks!(|k, answers| other_picks(k, answers, |a| a.e, taken))),
-        ("lengths cut to 15 bits", by_picks!(|k, answers| other_picks(k, answers, |a| (length(a) & 0x7fff, a.s), taken))),
+        ("lengths cut to 15 bits", by_picks!(|k, answers| other_picks(k, answers, |a| (length(a) & 0x7fff, Reverse(a.s)), taken))),
         (
             "no pick of 40,000 lines or more",
             by_picks!(|k, answers| r::picks(k, &answers.iter().copied().filter(|a| length(a) < 40_000).collect::<List>())),
         ),
-        ("lengths cut to 8 bits", by_picks!(|k, answers| other_picks(k, answers, |a| (length(a) & 0xff, a.s), taken))),
+        ("lengths cut to 8 bits", by_picks!(|k, answers| other_picks(k, answers, |a| (length(a) & 0xff, Reverse(a.s)), taken))),
         (
             "an answer kept that touches a pick by a line",
             by_picks!(|k, answers| {
@@ -63,6 +73,13 @@ fn over_choosing() -> Vec<(&'static str, Plain)> {
             "an answer dropped that ends on the line before a pick",
             by_picks!(|k, answers| {
                 let drops = |picked: &[Stretch], a: Stretch| taken(picked, a) || picked.iter().any(|pick| a.e + 1 == pick.s);
+                other_picks(k, answers, r::pick_order, drops)
+            }),
+        ),
+        (
+            "an answer dropped that starts on the line after a pick",
+            by_picks!(|k, answers| {
+                let drops = |picked: &[Stretch], a: Stretch| taken(picked, a) || picked.iter().any(|pick| pick.e + 1 == a.s);
                 other_picks(k, answers, r::pick_order, drops)
             }),
         ),
@@ -92,6 +109,10 @@ fn over_choosing() -> Vec<(&'static str, Plain)> {
             by_picks!(|k, answers| other_picks(k, answers, r::pick_order, |picked, a| picked.last().is_some_and(|pick| a.s <= pick.e))),
         ),
         (
+            "only what precedes the last pick",
+            by_picks!(|k, answers| other_picks(k, answers, r::pick_order, |picked, a| picked.last().is_some_and(|pick| pick.s <= a.e))),
+        ),
+        (
             "of equal lengths only one",
             by_picks!(|k, answers| {
                 let drops = |picked: &[Stretch], a: Stretch| taken(picked, a) || picked.iter().any(|pick| length(pick) == length(&a));
@@ -107,6 +128,14 @@ fn over_choosing() -> Vec<(&'static str, Plain)> {
             }),
         ),
         (
+            "picks in falling order of lines",
+            by_picks!(|k, answers| {
+                let mut picked = r::picks(k, answers);
+                picked.sort_by_key(|&a| Reverse(a));
+                picked
+            }),
+        ),
+        (
             "the last pick first",
             by_picks!(|k, answers| {
                 let mut picked = r::picks(k, answers);
@@ -118,11 +147,39 @@ fn over_choosing() -> Vec<(&'static str, Plain)> {
         ("picks beyond k", by_picks!(|_, answers| r::picks(16, answers))),
         ("picks among the first 4,096 answers", by_picks!(|k, answers| r::picks(k, &answers[..answers.len().min(4_096)]))),
         ("picks among the first 64 answers", by_picks!(|k, answers| r::picks(k, &answers[..answers.len().min(64)]))),
+        ("picks among the last 4,096 answers", by_picks!(|k, answers| r::picks(k, &answers[answers.len().saturating_sub(4_096)..]))),
+        ("picks among the last 64 answers", by_picks!(|k, answers| r::picks(k, &answers[answers.len().saturating_sub(64)..]))),
+        ("picks without the first answer", by_picks!(|k, answers| r::picks(k, answers.get(1..).unwrap_or_default()))),
         ("picks without the last answer", by_picks!(|k, answers| r::picks(k, &answers[..answers.len().saturating_sub(1)]))),
         (
             "picks among the lines below 4,096",
             by_picks!(|k, answers| r::picks(k, &answers.iter().copied().filter(|a| a.e < 4_096).collect::<List>())),
         ),
+    ]
+}
+
+/// Equal lengths decided otherwise than by the later start.
+fn over_ties() -> Vec<(&'static str, Plain)> {
+    fn earlier(a: &Stretch) -> (u32, u32) {
+        (length(a), a.s)
+    }
+    vec![
+        ("of equal lengths the earlier start", by_picks!(|k, answers| other_picks(k, answers, earlier, taken))),
+        ("the earlier start in the first pick alone", by_picks!(|k, answers| picks_in_turn(k, answers, earlier, r::pick_order))),
+        ("the earlier start from the second pick on", by_picks!(|k, answers| picks_in_turn(k, answers, r::pick_order, earlier))),
+        (
+            "the earlier start of answers of one line",
+            by_picks!(|k, answers| other_picks(k, answers, |a| (length(a), if length(a) == 1 { a.s } else { u32::MAX - a.s }), taken)),
+        ),
+        (
+            "the earlier start of longer answers",
+            by_picks!(|k, answers| other_picks(k, answers, |a| (length(a), if length(a) > 1 { a.s } else { u32::MAX - a.s }), taken)),
+        ),
+        ("the latest start whatever the length", by_picks!(|k, answers| other_picks(k, answers, |a| Reverse(a.s), taken))),
+        ("the first pick the latest of all", by_picks!(|k, answers| picks_in_turn(k, answers, |a| Reverse(a.s), r::pick_order))),
+        ("starts cut to 8 bits", by_picks!(|k, answers| other_picks(k, answers, |a| (length(a), Reverse(a.s & 0xff)), taken))),
+        ("starts cut to 15 bits", by_picks!(|k, answers| other_picks(k, answers, |a| (length(a), Reverse(a.s & 0x7fff)), taken))),
+        ("starts with a sign", by_picks!(|k, answers| other_picks(k, answers, |a| (length(a), Reverse(a.s as i16)), taken))),
     ]
 }
 

@@ -17,11 +17,16 @@ fn of(codes: &[u32]) -> String {
     codes.iter().map(|code| format!("1,4,{code},3,6\n")).collect()
 }
 
-/// In a full log the shortest answer is the last of 6,143: after [0..1], [1..2] and so on, [6143..6143].
-const SHORT_LAST: &str = "or,2,row,2,ev,1,0,ev,1,0,ev,9,0";
+/// In a full log the shortest answer is the last of 6,143: after [0..1], [1..2] and so on, [6143..6143]. Or the first: [0..0], then [1..2] and so on
+/// up to [6142..6143].
+const ONE_SHORT: &str = "or,2,row,2,ev,1,0,ev,1,0,ev,9,0";
 
 fn shortest_last() -> String {
     of(&[1; 6_143]) + &of(&[9])
+}
+
+fn shortest_first() -> String {
+    of(&[9]) + &of(&[1; 6_143])
 }
 
 /// Two long answers, the first longer: [0..45001] and [45002..57503].
@@ -29,6 +34,16 @@ const FAR: &str = "then,2,ev,7,0,ev,9,0";
 
 fn far_apart() -> String {
     of(&[7]) + &"\n".repeat(45_000) + &of(&[9, 7]) + &"\n".repeat(12_500) + &of(&[9])
+}
+
+/// Two as long: [0..30001] and [30002..60003].
+fn far_and_alike() -> String {
+    of(&[7]) + &"\n".repeat(30_000) + &of(&[9, 7]) + &"\n".repeat(30_000) + &of(&[9])
+}
+
+/// Code 7 on lines 300 and 33,000, which in 15 bits is 232, and below 0 in 16 bits with a sign.
+fn alike_and_late() -> String {
+    "\n".repeat(300) + &of(&[7]) + &"\n".repeat(32_699) + &of(&[7])
 }
 
 /// Numbers of cells around the ends of n picks, and of k.
@@ -132,8 +147,13 @@ pub fn long(t: &Trial) -> Outcome {
             check(&mut rng, pattern, &b"1,4,1,3,6\n".repeat(lines))?;
         }
     }
-    check(&mut rng, SHORT_LAST, shortest_last().as_bytes())?;
-    check(&mut rng, FAR, far_apart().as_bytes())?;
+    for log in [shortest_last(), shortest_first()] {
+        check(&mut rng, ONE_SHORT, log.as_bytes())?;
+    }
+    for log in [far_apart(), far_and_alike()] {
+        check(&mut rng, FAR, log.as_bytes())?;
+    }
+    check(&mut rng, "ev,7,0", alike_and_late().as_bytes())?;
     Ok(count)
 }
 
@@ -156,32 +176,37 @@ pub fn cases(t: &Trial) -> Outcome {
     type Due = Result<&'static [(u32, u32)], (u64, u64)>;
     let and = "and,2,ev,7,0,ev,9,0";
     let then = "then,2,ev,7,0,ev,9,0";
-    // By `and` the answers are [0..1], [1..2], [2..5], [5..6]; by `then` [0..3], [4..5].
-    let (crossing, later) = (of(&[7, 9, 7, 12, 12, 9, 7]), of(&[7, 12, 12, 9, 7, 9]));
+    // By `and` the answers are [0..1], [1..2], [2..5], [5..6]; by `then` [0..3], [4..5], and [0..1], [2..5].
+    let (crossing, later, earlier) = (of(&[7, 9, 7, 12, 12, 9, 7]), of(&[7, 12, 12, 9, 7, 9]), of(&[7, 9, 7, 12, 12, 9]));
     let (seven, long) = (of(&[7; 17]), "\n".repeat(61_441));
     // The example of FORMATS.md, "The undamaged run": by `and` on lane 4 the answers are [0..1], [1..2], [2..4], [4..5], [5..6]; in the run of
     // lines 2 to 4 alone [0..2].
     let log = RUN_LOG.concat();
     let run = RUN_LOG[2..5].concat();
     let on_lane = "and,2,ev,7,4,ev,9,4";
-    let (last, far) = (shortest_last(), far_apart());
-    let all: Vec<(u32, u32)> = (0..16).map(|p| (p, p)).collect();
+    let (last, first, far, alike, late) = (shortest_last(), shortest_first(), far_apart(), far_and_alike(), alike_and_late());
+    let all: Vec<(u32, u32)> = (1..17).rev().map(|p| (p, p)).collect();
     let all: &'static [(u32, u32)] = all.leak();
     let cases: Vec<(&str, &str, u32, usize, Due)> = vec![
-        (and, &crossing, 16, 40, Ok(&[(0, 1), (5, 6)])),
-        (and, &crossing, 2, 4, Ok(&[(0, 1), (5, 6)])),
-        (and, &crossing, 2, 3, Ok(&[(0, 1)])),
-        (and, &crossing, 1, 9, Ok(&[(0, 1)])),
+        (and, &crossing, 16, 40, Ok(&[(5, 6), (1, 2)])),
+        (and, &crossing, 2, 4, Ok(&[(5, 6), (1, 2)])),
+        (and, &crossing, 2, 3, Ok(&[(5, 6)])),
+        (and, &crossing, 1, 9, Ok(&[(5, 6)])),
         (and, &crossing, 16, 1, Ok(&[])),
         (and, &crossing, 16, 0, Ok(&[])),
         (then, &later, 16, 7, Ok(&[(4, 5), (0, 3)])),
         (then, &later, 1, 7, Ok(&[(4, 5)])),
-        (on_lane, &log, 16, 40, Ok(&[(0, 1), (4, 5)])),
+        (then, &earlier, 16, 7, Ok(&[(0, 1), (2, 5)])),
+        (then, &earlier, 1, 7, Ok(&[(0, 1)])),
+        (on_lane, &log, 16, 40, Ok(&[(5, 6), (1, 2)])),
         (on_lane, &run, 16, 40, Ok(&[(0, 2)])),
-        (SHORT_LAST, &last, 3, 6, Ok(&[(6_143, 6_143), (0, 1), (2, 3)])),
+        (ONE_SHORT, &last, 3, 6, Ok(&[(6_143, 6_143), (6_141, 6_142), (6_139, 6_140)])),
+        (ONE_SHORT, &first, 3, 6, Ok(&[(0, 0), (6_142, 6_143), (6_140, 6_141)])),
         (FAR, &far, 16, 6, Ok(&[(45_002, 57_503), (0, 45_001)])),
-        ("row,2,ev,7,0,ev,7,4", &seven, 3, 6, Ok(&[(0, 1), (2, 3), (4, 5)])),
-        ("ev,7,0", &seven, 2, 6, Ok(&[(0, 0), (1, 1)])),
+        (FAR, &alike, 16, 6, Ok(&[(30_002, 60_003), (0, 30_001)])),
+        ("ev,7,0", &late, 16, 6, Ok(&[(33_000, 33_000), (300, 300)])),
+        ("row,2,ev,7,0,ev,7,4", &seven, 3, 6, Ok(&[(15, 16), (13, 14), (11, 12)])),
+        ("ev,7,0", &seven, 2, 6, Ok(&[(16, 16), (15, 15)])),
         ("ev,7,0", &seven, 16, 40, Ok(all)),
         ("ev,9,0", &seven, 5, 6, Ok(&[])),
         ("ev,7,0", "", 1, 2, Ok(&[])),

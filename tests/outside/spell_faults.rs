@@ -3,6 +3,7 @@
 use crate::lane_faults::{changed, is_padded};
 use crate::plain::{Call, Plain, RIGHT};
 use crate::reference::{self as r, Layout, List, Measure, Op, Record, Stretch, Tree};
+use std::cmp::Reverse;
 
 /// The readings of a log's lines.
 type Lines = [Option<Record>];
@@ -383,7 +384,7 @@ fn over_calls() -> Vec<(&'static str, Plain)> {
     /// Picks with the least of what `order` gives first.
     fn picked(list: &[Stretch], k: u32, order: impl Fn(Stretch) -> u32) -> List {
         let mut ordered = list.to_vec();
-        ordered.sort_by_key(|&a| (order(a), a.s));
+        ordered.sort_by_key(|&a| (order(a), Reverse(a.s)));
         let mut picks = List::new();
         for a in ordered {
             if picks.len() < k as usize && !picks.iter().any(|&pick| r::share_line(pick, a)) {
