@@ -21,9 +21,9 @@
 #include <stddef.h>
 #include <stdint.h>
 
-#define FINDER_VERSION "1.5.0"
+#define FINDER_VERSION "1.6.0"
 #define FINDER_VERSION_MAJOR 1
-#define FINDER_VERSION_MINOR 5
+#define FINDER_VERSION_MINOR 6
 #define FINDER_VERSION_PATCH 0
 
 #ifdef __cplusplus
@@ -87,7 +87,7 @@ enum {
 uint64_t finder_fill(const uint8_t *pattern, size_t pattern_len, const uint8_t *log, size_t log_len,
                      uint32_t *cells, size_t cell_count, uint64_t from);
 
-/* Up to k picks of a pattern in a log, k from 1 to FINDER_PICKS_MAX: of the answers the shortest, of equal lengths the one that starts first;
+/* Up to k picks of a pattern in a log, k from 1 to FINDER_PICKS_MAX: of the answers the shortest, of equal lengths the one that starts last;
    then the same of those that share no line with it, and so on. Writes them into cells in the order of picking, start line then end line,
    as many as whole pairs fit; later cells keep their contents. Two cells for each of the k picks are enough. Fewer than k are written
    exactly if, before the k-th, no answer is left that shares no line with those picked, or no whole pair of cells.
