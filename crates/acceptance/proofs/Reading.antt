@@ -1,13 +1,13 @@
 -- What each return of `read_both` shows, and the list of an accepted pattern's table. Assumes nothing.
 use Prim.Native.Nat.{ℕ, _≤_, _<_}
-use mathlib.Core.Path.{_≡_, refl, sym, ap, subst, _∙_}
+use mathlib.Core.Path.{_≡_, sym, ap, subst, _∙_}
 use mathlib.Core.Bool.{cond}
 use mathlib.Core.List.{List}
 use lib.ListN.{length, replicate}
 use borrow.Author.Tests.{lt-ltb, le-ltb}
 use Rattle.pattern.specs.Answer.{numberOf, placeOf}
 use Rattle.pattern.specs.Reading as pattern
-use Rattle.pattern.specs.Reading.{Outcome, Accepts, Refuses, outcomeOf, numberIn, placeIn, tableOf}
+use Rattle.pattern.specs.Reading.{Outcome, Accepts, outcomeOf, tableOf}
 use Rattle.pattern.specs.Pattern.{Pattern, nodes}
 use Rattle.pattern.specs.Rows.{Tree}
 use Rattle.pattern.specs.declared.Parsed.{Parsed}
@@ -17,7 +17,7 @@ use Rattle.pattern.proofs.Rows.{table-tree}
 use Rattle.meaning.specs.Meaning.{answersIn, tableIn}
 use Rattle.meaning.specs.Refusals.{Refusal, refused, refusal}
 use Rattle.meaning.specs.Finding.{listOf}
-use Rattle.meaning.proofs.Finding.{long-log, bad-pattern, good-pattern, accepted-list, accepted-number}
+use Rattle.meaning.proofs.Finding.{long-log, short-log, accepted-list, accepted-number}
 use Rattle.meaning.proofs.Table.{table-answers}
 use Rattle.acceptance.specs.declared.Readied.{Readied}
 use Rattle.acceptance.specs.Readied.{rowsIn, readied}
@@ -37,12 +37,8 @@ module _ (text log : List ℕ) where
 
   pub read-short : (r : Parsed) (n p : ℕ) → length log ≤ 61440 → pattern.ReadGives text r → n ≡ numberOf (r .verdict) → p ≡ placeOf (r .verdict) → said n p (r .table .rows) ≡ readied text log
   read-short r n p h g en ep =
-      let e = says (outcomeOf text) refl in
+      let e = short-log text log h in
       λ i. said ((en ∙ (g .number ∙ ap (λ (x : Refusal). x .number) (sym e))) i) ((ep ∙ (g .place ∙ ap (λ (x : Refusal). x .place) (sym e))) i) ((ap (λ (t : Table). t .rows) (g .table) ∙ rows-short h) i)
-    where
-      says : (o : Outcome) → outcomeOf text ≡ o → refusal text log ≡ refused (numberIn (outcomeOf text)) (placeIn (outcomeOf text))
-      says (Accepts q) k = good-pattern text log q h k ∙ sym (ap (λ (o : Outcome). refused (numberIn o) (placeIn o)) k)
-      says (Refuses m q) k = bad-pattern text log m q h k ∙ sym (ap (λ (o : Outcome). refused (numberIn o) (placeIn o)) k)
 
   -- of an accepted call the log is not too long, the pattern stands in the table, and the list is the pattern's
   pub record AcceptedTree : Type 0 where

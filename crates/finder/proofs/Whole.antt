@@ -1,4 +1,5 @@
--- Whatever the calls show is the list of the pattern in the log, and the calls do show it; so a run of whole lines decides its own stretches, for patterns without `in` and `out`.
+-- Whatever the calls show is the list of the pattern in the log, and the calls do show it; so it is no longer than the log has lines, and a run of whole lines decides its own
+-- stretches, for patterns without `in` and `out`.
 -- Assumes nothing.
 use Prim.Native.Nat.{ℕ, zero, suc, _*_, _≤_}
 use mathlib.Core.Path.{_≡_, refl, sym, ap, _∙_}
@@ -14,8 +15,8 @@ use Rattle.stretches.specs.Run.{inRun}
 use Rattle.stretches.proofs.Filling.{filled-front, done-all, room-done, drop-step}
 use Rattle.lines.specs.Lines.{lines, Whole}
 use Rattle.meaning.specs.Refusals.{Refusal, refusal, accepted}
-use Rattle.meaning.specs.Finding.{LocalText, listOf}
-use Rattle.meaning.proofs.Finding.{good-pattern, accepted-number, run-accepted, run-list}
+use Rattle.meaning.specs.Finding.{LocalText, listOf, filling}
+use Rattle.meaning.proofs.Finding.{good-pattern, accepted-number, list-few, run-accepted, run-list}
 use Rattle.finder.specs.declared.Finder.{Finder}
 use Rattle.finder.specs.declared.Answer.the-variants.{None, Stretch}
 use Rattle.finder.specs.Promises.{stepped}
@@ -74,6 +75,14 @@ module _ (pattern log : List ℕ) where
   pub shown-list : (xs : List s.Stretch) → Shown pattern log xs → xs ≡ listOf pattern log
   shown-list xs (inl t) = taken-list xs t
   shown-list xs (inr w) = written-list xs w
+
+  -- they are no more than the log's lines
+  pub shown-few : (xs : List s.Stretch) → Shown pattern log xs → length xs ≤ length (lines log)
+  shown-few xs p = omega (arith, list-few pattern log, ap length (shown-list xs p))
+
+  -- so a filling from number 0 with two cells for each line says "done"
+  pub lines-enough : (cells : List ℕ) → 2 * length (lines log) ≤ length cells → filling pattern log 0 cells .more ≡ false
+  lines-enough cells h = room-done (listOf pattern log) cells (omega (arith, list-few pattern log))
 
 -- ── Acceptance ──
 

@@ -3,6 +3,7 @@ use Prim.Native.Nat.{ℕ, zero, suc, _≤_}
 use mathlib.Core.Path.{_≡_, refl, sym, ap, _∙_}
 use mathlib.Core.Bool.{Bool, true, false, cond}
 use mathlib.Core.List.{List, []}
+use mathlib.Core.Logic.{_⊎_, inl, inr}
 use mathlib.Core.Option.{Option, none, some}
 use lib.ListN.{length, drop, length-take, length-drop}
 use lib.Dec.{eqb}
@@ -15,18 +16,18 @@ use Rattle.stretches.specs.Operators.{operatorOf, apply}
 use Rattle.stretches.specs.Filling.{pairsIn, written}
 use Rattle.stretches.specs.Lent.{listsOf}
 use Rattle.stretches.specs.Taking as algorithm
-use Rattle.stretches.proofs.Steps.{rising-length}
+use Rattle.stretches.proofs.Incomparable.{fine-few}
 use Rattle.stretches.proofs.Taking.{nth-in, or-taken, and-taken}
 use Rattle.meaning.specs.declared.Filled.{Filled}
 use Rattle.meaning.specs.Finding.{filling}
 use Rattle.stretches.proofs.Fine.{AllFine, fine-answers}
 use Rattle.meaning.specs.declared.Reply.{Reply}
-use Rattle.meaning.proofs.Bounds.{sized, few-written, pick-small}
+use Rattle.meaning.proofs.Bounds.{Small, refusal-small, pick-small, few-written, lowest-small}
 use Rattle.picks.specs.Picking.{picking}
 use Rattle.picks.proofs.Picking.{picked-few}
 use Rattle.witness.specs.Witness.{triplesIn, shownIn, witnessing}
 use Rattle.witness.proofs.Laws.{shown-most}
-use Rattle.meaning.specs.Refusals.{miscalled, miscalledTaking, miscut, disordered, lowest, listsRefusal, takingRefusal}
+use Rattle.meaning.specs.Refusals.{Refusal, refused, miscalled, miscalledTaking, pickRefusal, lowest, listsRefusal, takingRefusal}
 use Rattle.taking.specs.declared.Taken.{Taken}
 use Rattle.lists.specs.Filling.{listAnswers, wrote, notFilled, fillResult}
 use Rattle.taking.specs.Taking.{takenBy, takenOf, given, notTaken, takeResult}
@@ -36,58 +37,54 @@ use Rattle.lent.proofs.Accepting.{accepted}
 -- ── Over a pattern and a log ──
 
 -- of a filling call
-pub filling-small : (pattern log : List ℕ) (f : ℕ) (cells : List ℕ) (r : Filled) → r ≡ filling pattern log f cells → (r .number ≤ 9) × (r .place ≤ 1024) × (r .count ≤ 65536)
+pub filling-small : (pattern log : List ℕ) (f : ℕ) (cells : List ℕ) (r : Filled) → r ≡ filling pattern log f cells → (r .number ≤ 8) × (r .place ≤ 1024) × (r .count ≤ 65536)
 filling-small pattern log f cells r e =
-    let s = sized pattern log in (
-      omega (arith, ap (λ (x : Filled). x .number) e, s .refusal .number),
-      omega (arith, ap (λ (x : Filled). x .place) e, s .refusal .place),
+    let s = refusal-small pattern log in (
+      omega (arith, ap (λ (x : Filled). x .number) e, s .number),
+      omega (arith, ap (λ (x : Filled). x .place) e, s .place),
       omega (arith, ap (λ (x : Filled). x .count) e, few-written pattern log f cells),
     )
 
 -- of a picking call
 pub picking-small : (pattern log : List ℕ) (k : ℕ) (cells : List ℕ) (r : Reply) → r ≡ picking pattern log k cells → (r .number ≤ 10) × (r .place ≤ 1024) × (r .count ≤ 65536)
-picking-small pattern log k cells r e =
-    let s = pick-small pattern log k in (
-      omega (arith, ap (λ (x : Reply). x .number) e, s .0),
-      omega (arith, ap (λ (x : Reply). x .place) e, s .1),
-      omega (arith, ap (λ (x : Reply). x .count) e, picked-few pattern log k cells),
+picking-small pattern log k cells r e = go (pick-small pattern log k)
+  where
+    count : r .count ≤ 65536
+    count = omega (arith, ap (λ (x : Reply). x .count) e, picked-few pattern log k cells)
+
+    go : Small (pickRefusal pattern log k) ⊎ (pickRefusal pattern log k ≡ refused 10 0) → (r .number ≤ 10) × (r .place ≤ 1024) × (r .count ≤ 65536)
+    go (inl s) = (omega (arith, ap (λ (x : Reply). x .number) e, s .number), omega (arith, ap (λ (x : Reply). x .place) e, s .place), count)
+    go (inr s) = (
+      omega (arith, ap (λ (x : Reply). x .number) e, ap (λ (x : Refusal). x .number) s),
+      omega (arith, ap (λ (x : Reply). x .place) e, ap (λ (x : Refusal). x .place) s),
+      count,
     )
 
 -- of a witness call
 pub witness-small : (pattern log : List ℕ) (k : ℕ) (cells : List ℕ) (r : Reply) → r ≡ witnessing pattern log k cells → (r .number ≤ 10) × (r .place ≤ 1024) × (r .count ≤ 65536)
 witness-small pattern log k cells r e =
-    let s = sized pattern log in (
-      omega (arith, ap (λ (x : Reply). x .number) e, s .refusal .number),
-      omega (arith, ap (λ (x : Reply). x .place) e, s .refusal .place),
+    let s = refusal-small pattern log in (
+      omega (arith, ap (λ (x : Reply). x .number) e, s .number),
+      omega (arith, ap (λ (x : Reply). x .place) e, s .place),
       omega (arith, ap (λ (x : Reply). x .count) e, length-take (triplesIn cells) (shownIn pattern log k), shown-most pattern log k),
     )
 
 -- ── Over lent lists ──
 
--- a refusal's number
-lowest-small : (wrong : Bool) (items ends : List ℕ) → lowest wrong items ends ≤ 8
-lowest-small true items ends = omega arith
-lowest-small false items ends = go (miscut items ends) (disordered (listsOf items ends))
-  where
-    go : (a b : Bool) → cond a 7 (cond b 8 0) ≤ 8
-    go true b = omega arith
-    go false true = omega arith
-    go false false = omega arith
-
 answers-few : (o : Option Op) (ls : List (List Stretch)) → AllFine 65536 ls → length (apply o [] ls) ≤ 65536
 answers-few none ls f = omega arith
-answers-few (some o) ls f = let g = fine-answers 65536 o ls f in rising-length 65536 (answers o ls) (g .rising) (g .sound) (g .below)
+answers-few (some o) ls f = fine-few 65536 (answers o ls) (fine-answers 65536 o ls f)
 
 written-few : (l : List Stretch) (f : ℕ) (cells : List ℕ) → length (written l f cells) ≤ length l
 written-few l f cells = omega (arith, length-take (pairsIn cells) (drop f l), length-drop f l)
 
 -- of a filling call
-pub lists-small : (op k : ℕ) (items ends cells : List ℕ) (f : ℕ) (r : Filled) → r ≡ fillResult op k items ends cells f → (r .number ≤ 9) × (r .place ≤ 1024) × (r .count ≤ 65536)
+pub lists-small : (op k : ℕ) (items ends cells : List ℕ) (f : ℕ) (r : Filled) → r ≡ fillResult op k items ends cells f → (r .number ≤ 8) × (r .place ≤ 1024) × (r .count ≤ 65536)
 unfolding fillResult listsRefusal
 lists-small op k items ends cells f r e = go (eqb (lowest (miscalled op k ends) items ends) 0) refl e
   where
     go : (b : Bool) → eqb (lowest (miscalled op k ends) items ends) 0 ≡ b → r ≡ cond b (wrote (listAnswers op k items ends) cells f) (notFilled (lowest (miscalled op k ends) items ends))
-        → (r .number ≤ 9) × (r .place ≤ 1024) × (r .count ≤ 65536)
+        → (r .number ≤ 8) × (r .place ≤ 1024) × (r .count ≤ 65536)
     go true i x =
         let a = accepted (miscalled op k ends) items ends (eqb-true (lowest (miscalled op k ends) items ends) 0 i) in (
           omega (arith, ap (λ (y : Filled). y .number) x),
@@ -135,12 +132,12 @@ given-number None = refl
 given-number (At x) = refl
 
 -- of a taking call
-pub taking-small : (op : ℕ) (items ends counts : List ℕ) (p : ℕ) (r : Taken) → r ≡ takeResult op items ends counts p → (r .number ≤ 9) × (r .start ≤ 65535) × (r .end ≤ 65535)
+pub taking-small : (op : ℕ) (items ends counts : List ℕ) (p : ℕ) (r : Taken) → r ≡ takeResult op items ends counts p → (r .number ≤ 8) × (r .start ≤ 65535) × (r .end ≤ 65535)
 unfolding takeResult takingRefusal
 taking-small op items ends counts p r e = go (eqb (lowest (miscalledTaking op ends counts) items ends) 0) refl e
   where
     go : (b : Bool) → eqb (lowest (miscalledTaking op ends counts) items ends) 0 ≡ b → r ≡ cond b (given (takenOf op items ends p .answer)) (notTaken (lowest (miscalledTaking op ends counts) items ends))
-        → (r .number ≤ 9) × (r .start ≤ 65535) × (r .end ≤ 65535)
+        → (r .number ≤ 8) × (r .start ≤ 65535) × (r .end ≤ 65535)
     go true i x =
         let a = accepted (miscalledTaking op ends counts) items ends (eqb-true (lowest (miscalledTaking op ends counts) items ends) 0 i) in
         let h = taken-by (operatorOf lengthOf op 0) (listsOf items ends) (fine-lists (listsOf items ends) (a .order)) p (takenOf op items ends p .answer) refl in (

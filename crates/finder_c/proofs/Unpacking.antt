@@ -31,7 +31,7 @@ parts : (a b c d w : ℕ) → w ≡ a + 256 * b + 65536 * c + 4294967296 * d →
     → (w < 2 ^ 64) × (refusalIn w ≡ a) × (flagIn w ≡ b) × (placeIn w ≡ c) × (writtenIn w ≡ d)
 parts a b c d w e ha hb hc hd = (omega arith, omega arith, omega arith, omega arith, omega arith)
 
-reads-fill : (r : Filled) → (r .number ≤ 9) × (r .place ≤ 1024) × (r .count ≤ 65536) → ReadsFill (packedFill r) r
+reads-fill : (r : Filled) → (r .number ≤ 8) × (r .place ≤ 1024) × (r .count ≤ 65536) → ReadsFill (packedFill r) r
 reads-fill r h =
     let p = parts (r .number) (bit (r .more)) (r .place) (r .count) (packedFill r) refl (omega (arith, h .0)) (bit-small (r .more)) (omega (arith, h .1)) (omega (arith, h .2)) in
     record { fits = p .0; number = p .1; more = p .2; place = p .3; count = p .4 }

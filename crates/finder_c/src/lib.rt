@@ -22,7 +22,7 @@ fn flag(b: bool) -> u64
 
 // The result of a filling call in one number.
 fn packed(r: Filled) -> u64
-    requires { ⌜ (r .number ≤ 9) × (r .place ≤ 1024) × (r .count ≤ 65536) ⌝ }
+    requires { ⌜ (r .number ≤ 8) × (r .place ≤ 1024) × (r .count ≤ 65536) ⌝ }
     ensures { λ n. ⌜ n ≡ packedFill r ⌝ }
 {
     let more = flag(r.more);
@@ -40,7 +40,7 @@ fn packed_reply(r: Reply) -> u64
 
 // The result of a taking call in one number.
 fn packed_taken(r: Taken) -> u64
-    requires { ⌜ (r .number ≤ 9) × (r .start ≤ 65535) × (r .end ≤ 65535) ⌝ }
+    requires { ⌜ (r .number ≤ 8) × (r .start ≤ 65535) × (r .end ≤ 65535) ⌝ }
     ensures { λ n. ⌜ n ≡ packedTaken r ⌝ }
 {
     let found = flag(r.found);

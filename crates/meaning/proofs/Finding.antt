@@ -1,5 +1,5 @@
--- Laws of the refusals and of the list of a pattern in a log: each refusal by its cause, the list where both are accepted, that 9 never comes,
--- the undamaged run for that list, and when the picking call is accepted. Assumes nothing.
+-- Laws of the refusals and of the list of a pattern in a log: each refusal by its cause, the list where both are accepted, that it is no longer than the
+-- log has lines, the undamaged run for that list, and when the picking call is accepted. Assumes nothing.
 use Prim.Native.Nat.{ℕ, _≤_, _<_}
 use mathlib.Core.Path.{_≡_, refl, sym, ap, ap₂, subst, _∙_}
 use mathlib.Core.Bool.{Bool, true, false, not, cond, _&&_}
@@ -16,33 +16,28 @@ use Rattle.pattern.specs.Pattern.{Pattern}
 use Rattle.pattern.specs.Reading.{Outcome, Accepts, Refuses, outcomeOf}
 use Rattle.pattern.proofs.Outcomes.{refuses-says}
 use Rattle.meaning.specs.Meaning.{answersIn}
-use Rattle.meaning.specs.Refusals.{Refusal, refused, accepted, flood, badCount, ofPattern, refusal, pickRefusal}
+use Rattle.meaning.specs.Refusals.{Refusal, refused, accepted, badCount, ofPattern, refusal, pickRefusal}
 use Rattle.meaning.specs.Finding.{answersBy, LocalBy, LocalText, listOf}
 use Rattle.meaning.proofs.Tree.{few-answers}
 use Rattle.meaning.proofs.Run.{says-length, run-bytes}
 
--- 9 never comes: answers never outnumber the lines
-pub no-flood : (p : Pattern) (log : List ℕ) → flood (answersIn p log) log ≡ accepted
-no-flood p log =
-    let h : length (answersIn p log) ≤ length (lines log) = omega (arith, few-answers p (says log), says-length log) in
-    ap (λ (b : Bool). cond b (refused 9 0) accepted) (le-ltb (length (lines log)) (length (answersIn p log)) h)
-
 -- 1: the log is too long
 pub long-log : (pattern log : List ℕ) → 61440 < length log → refusal pattern log ≡ refused 1 0
 unfolding refusal
-long-log pattern log h = ap (λ (b : Bool). cond b (refused 1 0) (ofPattern (outcomeOf pattern) log)) (lt-ltb 61440 (length log) h)
+long-log pattern log h = rw (lt-ltb 61440 (length log) h)
 
-short-log : (pattern log : List ℕ) → length log ≤ 61440 → refusal pattern log ≡ ofPattern (outcomeOf pattern) log
+-- else what the pattern is read as
+pub short-log : (pattern log : List ℕ) → length log ≤ 61440 → refusal pattern log ≡ ofPattern (outcomeOf pattern)
 unfolding refusal
-short-log pattern log h = ap (λ (b : Bool). cond b (refused 1 0) (ofPattern (outcomeOf pattern) log)) (le-ltb 61440 (length log) h)
+short-log pattern log h = rw (le-ltb 61440 (length log) h)
 
 -- 2 to 5: the pattern's refusal
 pub bad-pattern : (pattern log : List ℕ) (n q : ℕ) → length log ≤ 61440 → outcomeOf pattern ≡ Refuses n q → refusal pattern log ≡ refused n q
-bad-pattern pattern log n q h e = short-log pattern log h ∙ ap (λ (o : Outcome). ofPattern o log) e
+bad-pattern pattern log n q h e = short-log pattern log h ∙ ap ofPattern e
 
 -- else both are accepted
 pub good-pattern : (pattern log : List ℕ) (p : Pattern) → length log ≤ 61440 → outcomeOf pattern ≡ Accepts p → refusal pattern log ≡ accepted
-good-pattern pattern log p h e = short-log pattern log h ∙ ap (λ (o : Outcome). ofPattern o log) e ∙ no-flood p log
+good-pattern pattern log p h e = short-log pattern log h ∙ ap ofPattern e
 
 -- the list of a refused pattern or log is empty
 pub refused-list : (pattern log : List ℕ) (r : Refusal) → refusal pattern log ≡ r → 1 ≤ r .number → listOf pattern log ≡ []
@@ -58,6 +53,16 @@ pub accepted-list : (pattern log : List ℕ) (p : Pattern) → length log ≤ 61
 unfolding listOf
 accepted-list pattern log p h e =
     ap₂ (λ (x : Refusal) (o : Outcome). cond (eqb (x .number) 0) (answersBy o log) []) (good-pattern pattern log p h e) e
+
+-- for every pattern and every log, accepted or not, the answers are no more than the log's lines
+pub list-few : (pattern log : List ℕ) → length (listOf pattern log) ≤ length (lines log)
+unfolding listOf
+list-few pattern log = go (eqb (refusal pattern log .number) 0) (outcomeOf pattern)
+  where
+    go : (b : Bool) (o : Outcome) → length (cond b (answersBy o log) []) ≤ length (lines log)
+    go true (Accepts p) = omega (arith, few-answers p (says log), says-length log)
+    go true (Refuses n q) = omega arith
+    go false o = omega arith
 
 -- what acceptance says
 pub record AcceptedPattern (pattern log : List ℕ) : Type 0 where
@@ -97,11 +102,11 @@ module _ (pattern a run b : List ℕ) (e : refusal pattern (a ++ (run ++ b)) ≡
 module _ (pattern log : List ℕ) (k : ℕ) where
   pub pick-as : eqb (refusal pattern log .number) 0 ≡ false → pickRefusal pattern log k ≡ refusal pattern log
   unfolding pickRefusal
-  pick-as e = ap (λ b. cond b (cond (badCount k) (refused 10 0) accepted) (refusal pattern log)) e
+  pick-as e = rw e
 
   pub pick-count : (b : Bool) → eqb (refusal pattern log .number) 0 ≡ true → badCount k ≡ b → pickRefusal pattern log k ≡ cond b (refused 10 0) accepted
   unfolding pickRefusal
-  pick-count b e h = ap₂ (λ a b. cond a (cond b (refused 10 0) accepted) (refusal pattern log)) e h
+  pick-count b e h = rw (e, h)
 
   -- it is accepted exactly where they are, and k is 1 to 16
   pub pick-accepted : pickRefusal pattern log k .number ≡ 0 → (refusal pattern log .number ≡ 0) × (1 ≤ k) × (k ≤ 16)

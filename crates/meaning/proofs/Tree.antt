@@ -13,10 +13,10 @@ use Rattle.stretches.specs.Operators.{apply}
 use Rattle.stretches.specs.Table.{holderKind}
 use Rattle.stretches.specs.Stretch as op
 use Rattle.stretches.proofs.Fine.{AllFine, all-none, all-more, fine-apply, fine-marks}
+use Rattle.stretches.proofs.Incomparable.{fine-few}
 use Rattle.stretches.proofs.Window.{Window, Windows, or-alike, and-alike, row-alike, then-alike, less-alike, max-alike, has-alike, local}
 use Rattle.stretches.proofs.InRun.{window-cut}
 use Rattle.stretches.proofs.Marks.{window-marks}
-use Rattle.stretches.proofs.Steps.{rising-length}
 use Rattle.records.specs.declared.Line.{Line}
 use Rattle.records.specs.Line.{soundLines}
 use Rattle.pattern.specs.Kinds.{Symbol, Ev, Fr, Or, And, Row, Then, Less, Max, Inside, Outside, Holding, kindOf}
@@ -45,7 +45,7 @@ fine-answersOf p ls = fine-eval (length ls) (overLines ls) (fine-leaf ls) p
 
 -- no more answers than lines
 pub few-answers : (p : Pattern) (ls : List Line) → length (answersOf p ls) ≤ length ls
-few-answers p ls = let f = fine-answersOf p ls in rising-length (length ls) (answersOf p ls) (f .rising) (f .sound) (f .below)
+few-answers p ls = fine-few (length ls) (answersOf p ls) (fine-answersOf p ls)
 
 -- ── The undamaged run, over lines ──
 

@@ -1,5 +1,5 @@
--- The refusals: docs/FORMATS.md, "Refusals", when each applies, 1 to 10 in number order; and which a call gets, the lowest that applies.
--- A refusal has its number and a place, 0 but for 3; number 0: accepted.
+-- The refusals: docs/FORMATS.md, "Refusals", when each applies, 1 to 8 and 10 in number order; and which a call gets, the lowest that applies.
+-- A refusal has its number and a place, 0 but for 3; number 0: accepted. No refusal has the number 9.
 -- Assumes nothing.
 use Prim.Native.Nat.{ℕ, _%_}
 use mathlib.Core.Bool.{Bool, false, not, cond, _&&_, _||_}
@@ -8,9 +8,7 @@ use lib.ListN.{length}
 use lib.Dec.{leb, ltb, eqb}
 use Rattle.stretches.specs.Stretch.{Stretch}
 use Rattle.stretches.specs.Lent.{listsOf}
-use Rattle.lines.specs.Lines.{lines}
-use Rattle.pattern.specs.Reading.{Outcome, Accepts, Refuses, outcomeOf}
-use Rattle.meaning.specs.Meaning.{answersIn}
+use Rattle.pattern.specs.Reading.{Outcome, outcomeOf, numberIn, placeIn}
 
 pub record Refusal : Type 0 where
   pub number : ℕ
@@ -73,24 +71,19 @@ abbrev pub disordered : List (List Stretch) → Bool
 disordered [] = false
 disordered (l ∷ ls) = disorderedList l || disordered ls
 
--- 9, flood: answers outnumber the log's lines
-abbrev pub flood : List Stretch → List ℕ → Refusal
-flood l log = cond (ltb (length (lines log)) (length l)) (refused 9 0) accepted
-
 -- 10, bad count: the number of picks asked for not 1 to 16
 abbrev pub badCount : ℕ → Bool
 badCount k = not (leb 1 k && leb k 16)
 
 -- ── Which a call gets ──
 
--- over what the pattern is read as, and the log: 2 to 5, then 9
-abbrev pub ofPattern : Outcome → List ℕ → Refusal
-ofPattern (Refuses n p) log = refused n p
-ofPattern (Accepts p) log = flood (answersIn p log) log
+-- of what the pattern is read as: 2 to 5
+abbrev pub ofPattern : Outcome → Refusal
+ofPattern o = refused (numberIn o) (placeIn o)
 
 -- over a pattern and a log: 1, then these
 unfoldable pub refusal : List ℕ → List ℕ → Refusal
-refusal pattern log = cond (longLog log) (refused 1 0) (ofPattern (outcomeOf pattern) log)
+refusal pattern log = cond (longLog log) (refused 1 0) (ofPattern (outcomeOf pattern))
 
 -- of the picking call: these, then 10
 unfoldable pub pickRefusal : List ℕ → List ℕ → ℕ → Refusal

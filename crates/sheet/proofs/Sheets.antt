@@ -26,7 +26,7 @@ use Rattle.meaning.proofs.Tree.{fine-answersOf}
 use Rattle.meaning.proofs.Run.{says-length}
 use Rattle.stretches.proofs.Filling.{done-all, room-done}
 use Rattle.meaning.proofs.Finding.{long-log, bad-pattern, accepted-list, accepted-number}
-use Rattle.meaning.proofs.Bounds.{sized}
+use Rattle.meaning.proofs.Bounds.{refusal-small, list-small}
 use Rattle.marking.specs.declared.pass.Counted.{Counted}
 use Rattle.marking.specs.Rows.{counted}
 use Rattle.input.specs.declared.Intake.{Intake}
@@ -55,7 +55,7 @@ pub filled-sheet : (pattern log cells : List ℕ) → 122880 ≤ length cells
 unfolding sheetOf printed
 filled-sheet pattern log cells h =
     let l = listOf pattern log in
-    let w : written l 0 cells ≡ l = done-all l cells (room-done l cells (omega (arith, sized pattern log .list))) in
+    let w : written l 0 cells ≡ l = done-all l cells (room-done l cells (omega (arith, list-small pattern log))) in
     let s : shown (length (written l 0 cells)) (filled l 0 cells) ≡ l = shown-flat (written l 0 cells) (drop (2 * length (written l 0 cells)) cells) ∙ w in
     ap (λ (x : List Stretch). cond (eqb (refusal pattern log .number) 0) (foundSheet (counted log .lines) (counted log .damaged) x) (refusedSheet (refusal pattern log .number) (refusal pattern log .place))) s
 
@@ -147,8 +147,8 @@ short-sheet pattern log = go (eqb (refusal pattern log .number) 0) refl
           length-found (counted log .lines) (counted log .damaged) (listOf pattern log),
           short-field (counted log .lines) 44 (omega (arith, few, a .brief)),
           short-field (counted log .damaged) 44 (omega (arith, damaged-few (says log), few, a .brief)),
-          short-field (length (listOf pattern log)) 10 (omega (arith, sized pattern log .list)),
-          sized pattern log .list,
+          short-field (length (listOf pattern log)) 10 (omega (arith, list-small pattern log)),
+          list-small pattern log,
           w,
         )
 
@@ -156,7 +156,7 @@ short-sheet pattern log = go (eqb (refusal pattern log .number) 0) refl
         → length (cond b (foundSheet (counted log .lines) (counted log .damaged) (listOf pattern log)) (refusedSheet (refusal pattern log .number) (refusal pattern log .place))) ≤ 800000
     go true e = found (eqb-true (refusal pattern log .number) 0 e)
     go false e =
-        let s = sized pattern log .refusal in
+        let s = refusal-small pattern log in
         omega (
           arith,
           length-refused (refusal pattern log .number) (refusal pattern log .place),

@@ -7,6 +7,7 @@ pub mod Window
 pub mod InRun
 pub mod Marks
 pub mod Steps
+pub mod Incomparable
 pub mod Ordered
 pub mod Tight
 pub mod Held

@@ -4,7 +4,7 @@
 use Prim.Native.Nat.{ℕ, suc, _-_, _≤_, _<_, min, max}
 use mathlib.Core.Path.{_≡_}
 use mathlib.Core.Logic.{_⊎_}
-use mathlib.Core.Bool.{Bool, true, not, cond, _&&_, _||_}
+use mathlib.Core.Bool.{Bool, true, false, not, cond, _&&_, _||_}
 use mathlib.Core.List.{List, [], _∷_, _++_, map}
 use lib.Dec.{leb, ltb, eqb}
 
@@ -38,6 +38,11 @@ pub record Fine (n : ℕ) (l : List Stretch) : Type 0 where
 -- x lies inside y
 abbrev pub inside : Stretch → Stretch → Bool
 inside x y = leb (y .start) (x .start) && leb (x .end) (y .end)
+
+-- of any two of the list neither lies inside the other
+abbrev pub Incomparable : List Stretch → Type 0
+Incomparable [] = Unit {0}
+Incomparable (x ∷ xs) = ((s e : ℕ) → In s e xs → (inside (st s e) x ≡ false) × (inside x (st s e) ≡ false)) × Incomparable xs
 
 abbrev pub same : Stretch → Stretch → Bool
 same x y = eqb (x .start) (y .start) && eqb (x .end) (y .end)

@@ -11,8 +11,8 @@ use Rattle.stretches.specs.Stretch.{Stretch, st}
 use Rattle.stretches.specs.Front.{Front, None, At, nth}
 use Rattle.stretches.specs.Taking.{Order, fronts, leads, top, topIndex, join, span, oneMore, advance}
 use Rattle.stretches.specs.Lent.{listsOf}
-use Rattle.stretches.proofs.Steps.{rising-length}
-use Rattle.stretches.proofs.Fine.{AllFine}
+use Rattle.stretches.proofs.Incomparable.{fine-few}
+use Rattle.stretches.proofs.Fine.{AllFine, first-fine, rest-fine}
 use Rattle.stretches.proofs.Lent.{lists-length}
 use Rattle.taking.specs.declared.queue.Item.{Item}
 use Rattle.taking.specs.declared.queue.Top.{Top}
@@ -146,8 +146,8 @@ nth-short (x ∷ l) (suc m) y e = omega (arith, nth-short l m y e)
 -- no lent list has more than 65,536 stretches
 short-lists : (ls : List (List Stretch)) → AllFine 65536 ls → (i : ℕ) → length (getD ls i []) ≤ 65536
 short-lists [] f i = omega arith
-short-lists (l ∷ ls) f zero = rising-length 65536 l (f .rising .0) (f .sound .0) (f .below .0)
-short-lists (l ∷ ls) f (suc i) = short-lists ls (record { rising = f .rising .1; sound = f .sound .1; below = f .below .1 }) i
+short-lists (l ∷ ls) f zero = fine-few 65536 l (first-fine f)
+short-lists (l ∷ ls) f (suc i) = short-lists ls (rest-fine f) i
 
 getD-drop-front : (q : List Front) (i : ℕ) (f : Front) (r : List Front) → drop i q ≡ f ∷ r → getD q i None ≡ f
 getD-drop-front [] i f r e = let w : [] ≡ f ∷ r = sym (drop-nil i) ∙ e in let z : _≡_ {A = ℕ} 0 1 = cc in absurd (omega arith)
