@@ -77,8 +77,8 @@ module _ (pattern log : List ℕ) where
   shown-list xs (inr w) = written-list xs w
 
   -- they are no more than the log's lines
-  pub shown-few : (xs : List s.Stretch) → Shown pattern log xs → length xs ≤ length (lines log)
-  shown-few xs p = omega (arith, list-few pattern log, ap length (shown-list xs p))
+  pub calls-few : (xs : List s.Stretch) → Shown pattern log xs → length xs ≤ length (lines log)
+  calls-few xs p = omega (arith, list-few pattern log, ap length (shown-list xs p))
 
   -- so a filling from number 0 with two cells for each line says "done"
   pub lines-enough : (cells : List ℕ) → 2 * length (lines log) ≤ length cells → filling pattern log 0 cells .more ≡ false

@@ -45,19 +45,18 @@ filling-small pattern log f cells r e =
       omega (arith, ap (λ (x : Filled). x .count) e, few-written pattern log f cells),
     )
 
+-- as pattern and log are refused, or with 10
+reply-small : (r : Refusal) → Small r ⊎ (r ≡ refused 10 0) → (r .number ≤ 10) × (r .place ≤ 1024)
+reply-small r (inl s) = (omega (arith, s .number), s .place)
+reply-small r (inr s) = (omega (arith, ap (λ (x : Refusal). x .number) s), omega (arith, ap (λ (x : Refusal). x .place) s))
+
 -- of a picking call
 pub picking-small : (pattern log : List ℕ) (k : ℕ) (cells : List ℕ) (r : Reply) → r ≡ picking pattern log k cells → (r .number ≤ 10) × (r .place ≤ 1024) × (r .count ≤ 65536)
-picking-small pattern log k cells r e = go (pick-small pattern log k)
-  where
-    count : r .count ≤ 65536
-    count = omega (arith, ap (λ (x : Reply). x .count) e, picked-few pattern log k cells)
-
-    go : Small (pickRefusal pattern log k) ⊎ (pickRefusal pattern log k ≡ refused 10 0) → (r .number ≤ 10) × (r .place ≤ 1024) × (r .count ≤ 65536)
-    go (inl s) = (omega (arith, ap (λ (x : Reply). x .number) e, s .number), omega (arith, ap (λ (x : Reply). x .place) e, s .place), count)
-    go (inr s) = (
-      omega (arith, ap (λ (x : Reply). x .number) e, ap (λ (x : Refusal). x .number) s),
-      omega (arith, ap (λ (x : Reply). x .place) e, ap (λ (x : Refusal). x .place) s),
-      count,
+picking-small pattern log k cells r e =
+    let s = reply-small (pickRefusal pattern log k) (pick-small pattern log k) in (
+      omega (arith, ap (λ (x : Reply). x .number) e, s .0),
+      omega (arith, ap (λ (x : Reply). x .place) e, s .1),
+      omega (arith, ap (λ (x : Reply). x .count) e, picked-few pattern log k cells),
     )
 
 -- of a witness call

@@ -21,8 +21,9 @@ use Rattle.meaning.specs.Refusals.{Refusal, refused, miscut, disordered,
 use Rattle.meaning.specs.Finding.{listOf}
 use Rattle.meaning.proofs.Finding.{long-log, short-log, refused-list, list-few, pick-as, pick-count}
 
--- ── Over a pattern and a log: 1 to 5, of the picking call also 10 ──
+-- ── Over a pattern and a log ──
 
+-- a refusal of at most this number and place
 pub record Small (r : Refusal) : Type 0 where
   pub number : r .number ≤ 5
   pub place : r .place ≤ 1024
@@ -42,6 +43,7 @@ pattern-small pattern (Refuses n q) e =
     record { number = omega (arith, h .number, z .0); place = omega (arith, h .place, z .1) }
 
 module _ (pattern log : List ℕ) where
+  -- no number above 5
   pub refusal-small : Small (refusal pattern log)
   refusal-small = go (le-or-lt (length log) 61440)
     where
@@ -49,6 +51,7 @@ module _ (pattern log : List ℕ) where
       go (inl h) = subst Small (sym (short-log pattern log h)) (pattern-small pattern (outcomeOf pattern) refl)
       go (inr h) = subst Small (sym (long-log pattern log h)) (record { number = omega arith; place = omega arith })
 
+  -- of the picking call none above 5 but 10
   pub pick-small : (k : ℕ) → Small (pickRefusal pattern log k) ⊎ (pickRefusal pattern log k ≡ refused 10 0)
   pick-small k = go (eqb (refusal pattern log .number) 0) (badCount k) refl refl
     where
@@ -69,8 +72,9 @@ module _ (pattern log : List ℕ) where
   pub few-written : (f : ℕ) (cells : List ℕ) → length (written (listOf pattern log) f cells) ≤ 61440
   few-written f cells = omega (arith, length-take (pairsIn cells) (drop f (listOf pattern log)), length-drop f (listOf pattern log), list-small)
 
--- ── Over lent lists: 6 to 8 ──
+-- ── Over lent lists ──
 
+-- no number above 8
 pub lowest-small : (wrong : Bool) (items ends : List ℕ) → lowest wrong items ends ≤ 8
 lowest-small true items ends = omega arith
 lowest-small false items ends = go (miscut items ends) (disordered (listsOf items ends))
