@@ -4,6 +4,7 @@ use crate::digit_faults;
 use crate::inside_faults;
 use crate::lane_faults;
 use crate::lent::{self, Taken};
+use crate::nine_faults;
 use crate::pick_faults;
 use crate::plain::{Plain, RIGHT};
 use crate::quick;
@@ -112,6 +113,7 @@ pub fn variants() -> Vec<(&'static str, Plain)> {
     all.extend(pick_faults::variants());
     all.extend(witness_faults::variants());
     all.extend(digit_faults::variants());
+    all.extend(nine_faults::variants());
     all
 }
 

@@ -175,6 +175,7 @@ static void over_log(void)
     uint32_t *cells = block(cell_count * sizeof *cells);
     uint64_t from = below(8) == 0 ? UINT64_MAX - below(3) : below(4);
     uint64_t result = finder_fill(pattern, pattern_len, log, log_len, cells, cell_count, from);
+    must(finder_refusal(result) <= FINDER_DEEP, "a pattern or a log is refused with another number than 1 to 5");
     use(cells, 2 * (size_t)finder_written(result));
     over_picks(pattern, pattern_len, log, log_len, result);
     over_witness(pattern, pattern_len, log, log_len, result);
@@ -182,6 +183,13 @@ static void over_log(void)
     free(pattern);
     free(log);
     free(cells);
+}
+
+/* A call over lists is accepted, or refused with 6 to 8. */
+static void number_over_lists(uint64_t result)
+{
+    unsigned number = finder_refusal(result);
+    must(number == FINDER_ACCEPTED || (number >= FINDER_MISCALLED && number <= FINDER_DISORDERED), "lists are refused with another number than 6 to 8");
 }
 
 static void over_lists(void)
@@ -207,12 +215,14 @@ static void over_lists(void)
     uint64_t from = below(8) == 0 ? UINT64_MAX - below(3) : below(4);
     uint64_t result = finder_lists_fill(op, k, items, item_count, ends, list_count, cells, cell_count, from);
     use(cells, 2 * (size_t)finder_written(result));
+    number_over_lists(result);
     must(cell_count < item_count || !finder_more(result), "as many cells as items are not enough");
     free(cells);
 
     size_t count_cells = list_count + below(3);
     uint32_t *counts = block(count_cells * sizeof *counts);
     result = finder_lists_take(1 + below(2), items, item_count, ends, list_count, counts, count_cells, from);
+    number_over_lists(result);
     use(counts, finder_refusal(result) == 0 ? list_count : 0);
     free(counts);
     free(items);

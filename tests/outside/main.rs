@@ -9,6 +9,7 @@ mod damaged_spells;
 mod digit_faults;
 mod digits;
 mod faults;
+mod full_lists;
 mod inputs;
 mod inside_faults;
 mod insides;
@@ -17,6 +18,7 @@ mod lane_faults;
 mod lanes;
 mod lent;
 mod log_alone;
+mod nine_faults;
 mod over_lists;
 mod over_logs;
 mod pick_faults;
@@ -58,7 +60,7 @@ pub type Outcome = Result<usize, String>;
 type Group = (&'static str, fn(&Trial) -> Outcome);
 
 /// Groups that try the calls on seeded inputs.
-const SEEDED: [Group; 29] = [
+const SEEDED: [Group; 31] = [
     ("patterns", over_logs::patterns),
     ("lines", over_logs::lines),
     ("logs", over_logs::logs),
@@ -88,9 +90,11 @@ const SEEDED: [Group; 29] = [
     ("witnesses in runs", witness_laws::runs),
     ("digit values", digits::values),
     ("laws of insides", insides::laws),
+    ("full lists", full_lists::full),
+    ("laws of lists", full_lists::laws),
 ];
 
-const FIXED: [Group; 11] = [
+const FIXED: [Group; 12] = [
     ("reference", itself::reference),
     ("worked cases", itself::cases),
     ("lane fields", lanes::cases),
@@ -102,6 +106,7 @@ const FIXED: [Group; 11] = [
     ("worked picks", picking::cases),
     ("worked witnesses", worked_witnesses::cases),
     ("worked insides", worked_insides::cases),
+    ("worked full lists", full_lists::cases),
 ];
 
 /// Runs all groups on the archive; gives the number that failed.

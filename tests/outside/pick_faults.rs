@@ -242,13 +242,6 @@ fn over_counts() -> Vec<(&'static str, Plain)> {
         ),
         ("10 only where there are cells", pick(|answers, k, cells| right(answers, if cells.len() < 2 { 1 } else { k }, cells))),
         (
-            "9 for 10",
-            pick(|answers, k, cells| match right(answers, k, cells) {
-                10 => 9,
-                result => result,
-            }),
-        ),
-        (
             "10 with a place",
             pick(|answers, k, cells| match right(answers, k, cells) {
                 10 => 10 | 1 << 16,

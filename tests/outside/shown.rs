@@ -40,11 +40,7 @@ pub fn outermost(pattern: &[u8], log: &[u8]) -> Result<Node, Refusal> {
         return r::refused(1);
     }
     let (tree, lines) = (r::read_pattern(pattern)?, r::read_log(log));
-    let root = node(&tree, 0, &lines, r::apply, &|a| r::sound_lines(&lines, a));
-    if root.list.len() > lines.len() {
-        return r::refused(9);
-    }
-    Ok(root)
+    Ok(node(&tree, 0, &lines, r::apply, &|a| r::sound_lines(&lines, a)))
 }
 
 /// Operands, each with its stretch.
@@ -142,7 +138,7 @@ fn quick_node(tree: &Tree, next: &mut u32, leaves: &mut std::vec::IntoIter<List>
 
 /// The outermost node of a pattern in a log, or the lowest refusal that applies.
 pub fn quick_outermost(pattern: &[u8], log: &[u8]) -> Result<Node, Refusal> {
-    quick::search(pattern, log, |tree, leaves, before| quick_node(tree, &mut 0, leaves, before), |root| &root.list)
+    quick::search(pattern, log, |tree, leaves, before| quick_node(tree, &mut 0, leaves, before))
 }
 
 /// What is shown directly below a node for its stretch `a`. Each stretch is its operand's first from a line on: by `or`, `and` and `has` from
