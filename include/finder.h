@@ -21,9 +21,9 @@
 #include <stddef.h>
 #include <stdint.h>
 
-#define FINDER_VERSION "1.6.0"
-#define FINDER_VERSION_MAJOR 1
-#define FINDER_VERSION_MINOR 6
+#define FINDER_VERSION "2.0.0"
+#define FINDER_VERSION_MAJOR 2
+#define FINDER_VERSION_MINOR 0
 #define FINDER_VERSION_PATCH 0
 
 #ifdef __cplusplus
@@ -47,8 +47,8 @@ enum {
    finder_lists_take less than 600; in a program's first call the dynamic linker takes up to 3,300 more. */
 enum { FINDER_STACK_FILL = 320 * 1024, FINDER_STACK_OTHERS = 16 * 1024 };
 
-/* Why a call was refused: the lowest number that applies. A refused call writes nothing, and its result holds this number and, for
-   FINDER_MISSPELT, the place; everything else in it is 0. */
+/* Why a call was refused: the lowest number that applies; no refusal has the number 9. A refused call writes nothing, and its result holds
+   this number and, for FINDER_MISSPELT, the place; everything else in it is 0. */
 enum {
     FINDER_ACCEPTED = 0,
     FINDER_LONG_LOG = 1,     /* more than FINDER_LOG_MAX bytes */
@@ -60,7 +60,6 @@ enum {
     FINDER_MISCUT = 7,       /* an end place odd, below the one before, or the last not item_count */
     FINDER_DISORDERED = 8,   /* a start above its end, a position above FINDER_POSITION_MAX, or a start or end not above the one before
                                 it in its list */
-    FINDER_FLOOD = 9,        /* more answers than lines, which never happens */
     FINDER_BAD_COUNT = 10    /* k of finder_pick not 1 to FINDER_PICKS_MAX */
 };
 
@@ -168,7 +167,6 @@ static inline const char *finder_refusal_text(unsigned refusal)
     case FINDER_MISCALLED: return "miscalled";
     case FINDER_MISCUT: return "miscut";
     case FINDER_DISORDERED: return "disordered";
-    case FINDER_FLOOD: return "flood";
     case FINDER_BAD_COUNT: return "bad count";
     default: return "unknown refusal";
     }
