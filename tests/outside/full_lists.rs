@@ -21,7 +21,7 @@ const EVERY_LINE: [&str; 9] = [
     "has,or,2,ev,1,0,ev,2,0,or,2,ev,1,0,ev,2,0",
 ];
 
-/// And one of which every two neighbours are.
+/// A pattern of which every two neighbouring lines of `sound` are an answer.
 const NEIGHBOURS: &str = "row,2,or,2,ev,1,0,ev,2,0,or,2,ev,1,0,ev,2,0";
 
 /// So many sound lines of ten bytes, with code 1 or 2.

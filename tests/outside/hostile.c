@@ -189,7 +189,8 @@ static void over_log(void)
 static void number_over_lists(uint64_t result)
 {
     unsigned number = finder_refusal(result);
-    must(number == FINDER_ACCEPTED || (number >= FINDER_MISCALLED && number <= FINDER_DISORDERED), "lists are refused with another number than 6 to 8");
+    must(number == FINDER_ACCEPTED || (number >= FINDER_MISCALLED && number <= FINDER_DISORDERED),
+        "lists are refused with another number than 6 to 8");
 }
 
 static void over_lists(void)

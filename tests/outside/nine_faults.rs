@@ -1,4 +1,4 @@
-//! Wrong variants with the number 9, which no refusal has: for lists that are full, and in place of another number.
+//! Wrong variants of lists that are full, most of them refused with 9, which is no refusal's number; and 9 in place of another number.
 
 use crate::lent;
 use crate::plain::{Call, Plain, RIGHT};
@@ -31,7 +31,7 @@ pub fn variants() -> Vec<(&'static str, Plain)> {
     all
 }
 
-/// 9 by the number of answers.
+/// 9 by the number of answers, and full lists cut short.
 fn over_full_lists() -> Vec<(&'static str, Plain)> {
     /// The list of one call over a full log changed.
     fn full(parts: &Plain, call: Call, tree: &Tree, log: &[u8], of: Call, other: fn(List) -> List) -> List {
