@@ -1,4 +1,6 @@
 // A pattern read and a log measured: the refusal that both get, and the pattern's table.
+#![tactic(auto)]
+
 ghost use Rattle.std.specs.Prelude.{◌≡◌};
 ghost use Rattle.pattern.specs.Answer.{number_of, place_of};
 ghost use Rattle.acceptance.specs.Readied.{readied};

@@ -1,4 +1,6 @@
 // Small functions, definitions and laws that several crates use and the kit's libraries lack.
+#![tactic(auto)]
+
 ghost use Rattle.std.specs.Prelude.{◌≡◌, ◌<◌, min, max, take};
 
 // A number as a place or a position.

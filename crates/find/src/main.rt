@@ -1,4 +1,6 @@
 // The finder as a program: reads a pattern, a line feed and a log from standard input, and prints the sheet.
+#![tactic(auto)]
+
 ghost use Rattle.std.specs.Prelude.{◌≡◌, length, take};
 ghost use Rattle.find.specs.Reading.{Turned, Gathered, Held, Prints};
 

@@ -1,4 +1,6 @@
 // The calls from C: numbers and slices in, one packed number out. include/finder.h declares them.
+#![tactic(auto)]
+
 ghost use Rattle.std.specs.Prelude.{◌≡◌, ◌≤◌};
 ghost use Rattle.stretches.specs.Filling.{filled};
 ghost use Rattle.meaning.specs.Finding.{list_of, filling};

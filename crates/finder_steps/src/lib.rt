@@ -1,4 +1,6 @@
 // The answers taken one by one, as the filling call from number 0 writes them: for the tests from outside and the benchmark.
+#![tactic(auto)]
+
 ghost use Rattle.std.specs.Prelude.{◌≡◌, length};
 ghost use Rattle.stretches.specs.Filling.{written, filled};
 ghost use Rattle.meaning.specs.Finding.{list_of};

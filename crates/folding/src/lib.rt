@@ -1,5 +1,7 @@
 // A table folded over rows of marks: an `or` of rows alone becomes one row, and so does a `max` of a row, node by node from the last to the first.
 // rows and words are as `seek` has them.
+#![tactic(auto)]
+
 ghost use Rattle.std.specs.Prelude.{◌≡◌, ◌<◌};
 ghost use Rattle.stretches.specs.Table.{operand_numbers};
 ghost use Rattle.folding.specs.Fold.{folding, row_before, rows_before, with_leaf, fold_or, max_folded, fold_node, folded};

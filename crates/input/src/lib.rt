@@ -1,4 +1,6 @@
 // Standard input taken in piece by piece: the pattern up to the first line feed, then the log.
+#![tactic(auto)]
+
 ghost use Rattle.std.specs.Prelude.{◌≡◌, min, length};
 ghost use Rattle.input.specs.Input.{pattern_of, Kept, TakenIn};
 ghost use Rattle.input.specs.inner.Parting.{Parts};

@@ -2,6 +2,8 @@
 //
 // rows: a table of nodes in five columns of 32, as `seek` has it; its leaves are of kind 16, `ev` with code and lane, and of kind 17, `fr` with frame and lane.
 // leaves: in three columns of 64, the kind and the two numbers of each leaf.
+#![tactic(auto)]
+
 ghost use Rattle.std.specs.Prelude.{◌≡◌, ◌≤◌, ◌<◌};
 ghost use Rattle.leaves.specs.Leaves.{held, is_leaf, number_in, are, added, with_node, gathered};
 

@@ -1,4 +1,6 @@
 // When a call over lent lists is refused: 6 miscalled, 7 miscut, 8 disordered.
+#![tactic(auto)]
+
 ghost use Rattle.std.specs.Prelude.{◌≡◌, false, ◌-◌, ◌≤◌, ◌<◌, length, take, drop};
 ghost use Rattle.stretches.specs.Lent.{pairs, lists_of};
 ghost use Rattle.meaning.specs.Refusals.{takes_lists, takes_bound, miscalled, miscalled_taking, miscut, disordered_list, disordered, lists_refusal, taking_refusal};

@@ -1,5 +1,7 @@
 // The filling call over lent lists.
 // items holds start and end in turn, list after list; ends has the place in items where each list ends.
+#![tactic(auto)]
+
 mod table;
 
 ghost use Rattle.std.specs.Prelude.{◌≡◌};

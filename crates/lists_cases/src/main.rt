@@ -6,6 +6,8 @@
 // A call stands on a line, in decimal numbers with a comma between: 0 for a filling call or 1 for a taking call, the operator, k (0 for a taking call), how
 // many cells are lent (at most 32), the number of the first answer or of the one taken, how many numbers the items are (at most 64), how many lists there
 // are (at most 32); then these items, and for each list where in the items it ends.
+#![tactic(auto)]
+
 use basics::wide;
 use libc::{STDIN_FILENO, STDOUT_FILENO};
 

@@ -1,5 +1,7 @@
 // Rows of marks: a row lies in the words from place `at` on and is `width` words long; its line p is bit p mod 64, the lowest being bit 0, of
 // its word p div 64. A row that does not lie inside the words, or has 2^64 lines or more, has no line.
+#![tactic(auto)]
+
 ghost use Rattle.std.specs.Prelude.{◌≡◌, true, false};
 ghost use Rattle.marks.specs.Row.{lies, fit, changed};
 

@@ -1,4 +1,5 @@
 // The meaning of a pattern in a log, the refusals, and what the calls return: definitions, their laws, and the results' types.
+#![tactic(auto)]
 
 // What a filling call returns. A refusal has its number and place, and count 0; number 0: accepted. `more`: a further answer exists.
 #[derive(Drop)]

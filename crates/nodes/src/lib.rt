@@ -1,5 +1,7 @@
 // The kinds of nodes by number, the columns of a table of 32 nodes, and where a node's operands stand in it: the first behind its operator, each next one behind the subtree of the one before.
 // rows: the table, in five columns of 32; the second has the sizes of the subtrees.
+#![tactic(auto)]
+
 ghost use Rattle.std.specs.Prelude.{◌≡◌, ◌<◌, ◌≤◌};
 ghost use Rattle.stretches.specs.Table.{leaf_kind, chain_kind, proof_kind, next_of, stop_of};
 

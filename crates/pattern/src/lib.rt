@@ -1,4 +1,6 @@
 // The pattern reader: one pass over the bytes by an automaton with a count of operands still to come, then the nodes from the last to the first.
+#![tactic(auto)]
+
 ghost use Rattle.std.specs.Prelude.{◌≡◌};
 ghost use Rattle.pattern.specs.Answer.{no_table};
 ghost use Rattle.pattern.specs.Reading.{ReadGives};

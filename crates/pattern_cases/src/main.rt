@@ -2,6 +2,8 @@
 // table, a line for each of 13 nodes and one past them. What it must write was derived from the rules of docs/FORMATS.md, not by this program.
 //
 // The patterns stand in standard input, each with a semicolon and a line feed behind it; a line feed before the semicolon is the pattern's own.
+#![tactic(auto)]
+
 use libc::{STDIN_FILENO, STDOUT_FILENO};
 use nodes::TABLE;
 use pattern::Verdict;

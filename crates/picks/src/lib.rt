@@ -1,5 +1,7 @@
 // A short list: of a pattern's answers the shortest, then the shortest of those that share no line with it, and so on, into lent cells.
 // The log is marked once; each pick is one pass of the machine over the marks, with the picks so far read from the cells.
+#![tactic(auto)]
+
 ghost use Rattle.std.specs.Prelude.{◌≡◌, ◌*◌, ◌≤◌, ◌<◌, length};
 ghost use Rattle.stretches.specs.Stretch.{st};
 ghost use Rattle.stretches.specs.Filling.{filled};

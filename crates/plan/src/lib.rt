@@ -1,5 +1,7 @@
 // The machine's table of a pattern's table, over rows of marks: each leaf becomes the row of its number among the table's different leaves.
 // rows and leaves are as `leaves` has them, words as `marking` has them.
+#![tactic(auto)]
+
 ghost use Rattle.std.specs.Prelude.{◌≡◌, ◌+◌, ◌≤◌, ◌<◌};
 ghost use Rattle.plan.specs.Plan.{width_of, plan_node, planned, has_max, sound_words, prepared, prepared_sound};
 

@@ -1,5 +1,7 @@
 // Rows of marks with, behind them, the number of marks before each word (rank): how many lines from one through another are marked, in the same time
 // however many they are. The row is the first half of the words, its counts the second. Rows are as `marks` has them.
+#![tactic(auto)]
+
 ghost use Rattle.std.specs.Prelude.{◌≡◌, ◌+◌, ◌≤◌, ◌<◌};
 ghost use Rattle.marks.specs.Row.{bits, trues};
 ghost use Rattle.ranks.specs.Rank.{half, indexed, through, marks_by};

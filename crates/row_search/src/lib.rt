@@ -1,6 +1,8 @@
 // The marks of a row found and counted. Rows are as `marks` has them: in one that does not lie inside the words nothing is found or counted.
 //
 // A word is opened at a line by a shift right, and cut after the last line by a shift left: no mask is made, and neither shift reaches 64.
+#![tactic(auto)]
+
 ghost use Rattle.std.specs.Prelude.{◌≡◌, ◌≤◌};
 ghost use Rattle.std.specs.Int.Count.{ones};
 ghost use Rattle.stretches.specs.Stretch.{marks};

@@ -1,4 +1,6 @@
 // Whole rows changed: cleared, and united. Rows are as `marks` has them.
+#![tactic(auto)]
+
 ghost use Rattle.std.specs.Prelude.{◌≡◌};
 ghost use Rattle.marks.specs.Row.{apart, cleared, united};
 

@@ -6,6 +6,8 @@
 // sound: what `max` measures by, the row of the sound lines with its counts, as `ranks` has it; empty where lines are counted, as over lists.
 // st: what is kept, in six columns of 32: one past the start (0: nothing), the end, the line asked from; the line up to which a node was passed over by
 // end, and the line before which all of that ends; and over lists a place in the items, only a hint.
+#![tactic(auto)]
+
 mod fronts;
 mod leaves;
 mod machine;

@@ -1,4 +1,6 @@
 // The printed sheet of a pattern and a log, written into a lent buffer.
+#![tactic(auto)]
+
 ghost use Rattle.print.specs.Print.{Writes};
 ghost use Rattle.sheet.specs.Sheet.{sheet_of, printed};
 

@@ -1,5 +1,7 @@
 // The taking call: answer number p of or or and over lent lists, and the items taken of each list, as Algorithms 2 and 3 of
 // Boldi and Vigna, "Efficient Optimally Lazy Algorithms for Minimal-Interval Semantics" take them.
+#![tactic(auto)]
+
 mod algorithm;
 mod queue;
 

@@ -1,6 +1,8 @@
 // Runs outside examples and writes a printed sheet for each: the cases of docs/FORMATS.md, "Worked cases", that programs run, the example of its "The printed sheet",
 // and the query of Figure 1 of Boldi and Vigna, "Efficient Optimally Lazy Algorithms for Minimal-Interval Semantics",
 // over a log and over lists. What it must write was derived from the rules there, not by this program.
+#![tactic(auto)]
+
 use basics::first;
 use libc::STDOUT_FILENO;
 

@@ -1,5 +1,7 @@
 // The walk over all answers of a table's first node: some are passed over, the others written into cells.
 // rows, words, items and the state are as `seek` has them.
+#![tactic(auto)]
+
 ghost use Rattle.seek.specs.Source.{source};
 ghost use Rattle.walk.specs.inner.Walks.{PassedOver, Put};
 ghost use Rattle.walk.specs.Filling.{FillAll, Within};

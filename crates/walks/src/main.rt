@@ -1,5 +1,7 @@
 // Reads a log from standard input and goes through it one by one: by the finder's steps for several patterns, and line by line for several leaves. Writes
 // how much came, and whether it is what the filling call wrote.
+#![tactic(auto)]
+
 ghost use Rattle.std.specs.Prelude.{◌≡◌, ◌+◌, ◌≤◌, ◌<◌};
 ghost use Rattle.lines.specs.Lines.{line_end};
 ghost use Rattle.event_log.specs.Reading.{read_at};

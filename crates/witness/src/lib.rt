@@ -1,5 +1,7 @@
 // Every stretch with the lines that made it: for one answer of a pattern the nodes that took part, each with its stretch, into lent cells.
 // The log is marked once; every shown stretch is the first of its node's list from some line on, or to one, and is sought anew.
+#![tactic(auto)]
+
 ghost use Rattle.std.specs.Prelude.{◌≡◌, true, cond, [], ◌∷◌, ◌+◌, ◌≤◌, ◌<◌, length};
 ghost use Rattle.stretches.specs.Stretch.{st};
 ghost use Rattle.stretches.specs.inner.Below.{each_kind};
