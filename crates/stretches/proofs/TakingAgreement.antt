@@ -6,7 +6,7 @@ use mathlib.Core.Logic.{◌⊎◌, inl, inr}
 use mathlib.Core.Bool.{true, false}
 use mathlib.Core.List.{List, [], ◌∷◌}
 use native.Mathlib.Omega.{arith}
-use Rattle.stretches.specs.Stretch.{Stretch, AllRising, AllSound, Op, Or, And, answers}
+use Rattle.stretches.specs.Stretch.{Keep, Then, Row, Stretch, AllRising, AllSound, Op, Or, And, answers}
 use Rattle.stretches.specs.Front.{Front, None, At, nth}
 use Rattle.stretches.specs.Taking.{AnswerCounts, fronts, Order, ends_first, starts_first, top, top_index, span, contains, one_more, advance, is_top, begun, HasTaking, taking}
 use Rattle.stretches.specs.Loops.{SkipGives, skip-over, skip-on, ShrinkGives, shrink-top, shrink-over, shrink-on, NextGives, or-next, and_none, and-next, TakingGives, taking-first, taking-later}
@@ -78,8 +78,11 @@ module _ (ls : List (List Stretch)) where
   next-begun Or (or-next k) b = skips-begun k b
   next-begun And (and_none k e) b = skips-begun k b
   next-begun And (and-next k e i) b = shrinks-begun i (skips-begun k b)
+  next-begun Row g b = elim g [ ]
+  next-begun Then g b = elim g [ ]
+  next-begun (Keep _ _) g b = elim g [ ]
 
-  gives-begun : {p n : ℕ} {r : AnswerCounts} (o : Op) → TakingGives ls o p n r → Begun r.counts
+  gives-begun : (o : Op) {p n : ℕ} {r : AnswerCounts} → TakingGives ls o p n r → Begun r.counts
   gives-begun o (taking-first k) = next-begun o k (first-begun ls)
   gives-begun o (taking-later g k) = next-begun o k (gives-begun o g)
 
@@ -142,9 +145,12 @@ module _ (ls ms : List (List Stretch)) where
       let v = shrinks-agree i c a in
       let h = skips-agree k b v.back in
       record { also = and-next h.also (ap span (sym (fronts-agree js ls ms c v.back)) ∙ e) v.also; back = h.back }
+  next-agrees Row g b a = elim g [ ]
+  next-agrees Then g b a = elim g [ ]
+  next-agrees (Keep _ _) g b a = elim g [ ]
 
-  gives-agree : {p n : ℕ} {r : AnswerCounts} (o : Op) → TakingGives ls o p n r → Agree r.counts ls ms → TakingGives ms o p n r
-  gives-agree {n = n} {r = r} o (taking-first k) a =
+  gives-agree : (o : Op) {p n : ℕ} {r : AnswerCounts} → TakingGives ls o p n r → Agree r.counts ls ms → TakingGives ms o p n r
+  gives-agree o {n = n} {r = r} (taking-first k) a =
       let h = next-agrees o k (first-begun ls) a in
       taking-first (subst (λ s. NextGives ms s o n r) (agree-begun r.counts ls ms a) h.also)
   gives-agree o (taking-later g k) a = let h = next-agrees o k (gives-begun ls o g) a in taking-later (gives-agree o g h.back) h.also

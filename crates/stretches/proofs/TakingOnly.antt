@@ -5,7 +5,7 @@ use mathlib.Core.Path.{◌≡◌, refl, sym, ap, ap₂, subst, ◌∙◌}
 use mathlib.Core.Bool.{true, false, true≢false}
 use mathlib.Core.List.{List}
 use native.Mathlib.Omega.{arith}
-use Rattle.stretches.specs.Stretch.{Stretch, inside, Op, Or, And}
+use Rattle.stretches.specs.Stretch.{Keep, Then, Row, Stretch, inside, Op, Or, And}
 use Rattle.stretches.specs.Front.{Front, None, At}
 use Rattle.stretches.specs.Taking.{AnswerCounts, Order, starts_first, contains, advance, total, or_hand, HasTaking, taking}
 use Rattle.stretches.specs.Loops.{SkipGives, skip-over, skip-on, ShrinkGives, shrink-top, shrink-over, shrink-on, NextGives, or-next, and_none, and-next, TakingGives, taking-first, taking-later}
@@ -47,10 +47,13 @@ module _ (ls : List (List Stretch)) where
       let z : c' ≡ c = cc in
       let v = shrinks-one i (subst (λ x. ShrinkGives ls x js n r') z (subst (λ ks. ShrinkGives ls c' ks n r') e i')) in
       (v.0, ap₂ max u.1 v.1)
+  next_one Row g _ = elim g [ ]
+  next_one Then g _ = elim g [ ]
+  next_one (Keep _ _) g _ = elim g [ ]
 
-  gives_one : {p n n' : ℕ} {r r' : AnswerCounts} (o : Op) → TakingGives ls o p n r → TakingGives ls o p n' r' → (r ≡ r') × (n ≡ n')
+  gives_one : (o : Op) {p n n' : ℕ} {r r' : AnswerCounts} → TakingGives ls o p n r → TakingGives ls o p n' r' → (r ≡ r') × (n ≡ n')
   gives_one o (taking-first k) (taking-first k') = next_one o k k'
-  gives_one {r' = r'} o (taking-later g k) (taking-later {n = n} g' k') =
+  gives_one o {r' = r'} (taking-later g k) (taking-later {n = n} g' k') =
       let u = gives_one o g g' in
       let v = next_one o k (subst (λ s. NextGives ls s o n r') (sym u.0) k') in
       (v.0, ap₂ max u.1 v.1)
