@@ -1,6 +1,5 @@
 -- `leaves::add` meets its contract. Assumes nothing.
 use Rattle.leaves.proofs.Gathering.{held_number, among, no_room, one-new}
-use borrow.Author.Rules.{rules}
 use native.Mathlib.Omega.{arith}
 use Rattle.leaves.proofs.add.Goals as goal
 

@@ -1,9 +1,8 @@
 -- `leaves::find` meets its contract. The loop's invariant: it is not among the first r leaves. Assumes nothing.
-use mathlib.Core.Path.{◌≡◌, sym, ap, ◌∙◌}
-use Prim.Native.Nat.{ℕ, ◌-◌, ◌≤◌}
-use Rattle.leaves.specs.Leaves.{held, number_from, number_in}
+use mathlib.Core.Path.{sym, ap, ◌∙◌}
+use Prim.Native.Nat.{ℕ}
+use Rattle.leaves.specs.Leaves.{number_in}
 use Rattle.leaves.proofs.Gathering.{found-start, found_here, found-later, found_none}
-use borrow.Author.Rules.{rules}
 use native.Mathlib.Omega.{arith}
 use Rattle.leaves.proofs.find.Goals as goal
 

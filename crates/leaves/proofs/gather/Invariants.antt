@@ -1,10 +1,7 @@
 -- `leaves::gather` meets its contract. The loop's invariant: the leaves of the first v nodes are added. Assumes nothing.
-use mathlib.Core.Path.{◌≡◌, ap, ◌∙◌}
+use mathlib.Core.Path.{◌≡◌}
 use Prim.Native.Nat.{◌-◌, ◌≤◌}
 use Rattle.leaves.specs.Leaves.{held, are, gathered_to}
-use Rattle.leaves.proofs.Gathering.{node-more}
-use borrow.Author.Rules.{rules}
-use native.Mathlib.Omega.{arith}
 use Rattle.leaves.proofs.gather.Given as goal
 
 abbrev pub invariant-loop-v : goal.invariant-loop-v

@@ -1,6 +1,5 @@
 -- `leaves::has_numbers` meets its contract. Assumes nothing.
 use Rattle.leaves.proofs.Gathering.{other-kind, other-first, by-second}
-use borrow.Author.Rules.{rules}
 use Rattle.leaves.proofs.has_numbers.Goals as goal
 
 pub returns-then-leaves-r : goal.returns-then-leaves-r
