@@ -40,7 +40,7 @@ AllSound (l ∷ ls) = Sound l × AllSound ls
 -- a list that rises, has no start above its end, and ends below line n
 pub record Fine (n : ℕ) (l : List Stretch) : Type 0 where
   pub rising : Rising l
-  pub sound : Sound l
+  pub sound : (s e : ℕ) → In s e l → s ≤ e
   pub below : (s e : ℕ) → In s e l → e < n
 
 -- x lies inside y

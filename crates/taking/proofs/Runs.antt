@@ -9,7 +9,7 @@ use lib.ListN.{length, take, drop, replicate, length-replicate}
 use lib.Seq.{take_at, drop_at}
 use Rattle.stretches.specs.Stretch.{Stretch, st, answers}
 use Rattle.stretches.specs.Front.{Front, None, nth}
-use Rattle.stretches.specs.Taking.{AnswerCounts, bound, skip, shrink, or_hand, and_hand, and_from, HasTaking, takes-or, takes-and, next, taking}
+use Rattle.stretches.specs.Taking.{AnswerCounts, total, skip, shrink, or_hand, and_hand, and_from, HasTaking, takes-or, takes-and, next, taking}
 use Rattle.stretches.specs.Lent.{lists_of}
 use Rattle.stretches.proofs.Taking.{taking-answers, taking-stays, nth-none}
 use Rattle.stretches.proofs.Fine.{AllFine}
@@ -42,7 +42,7 @@ ones (l ∷ ls) = ap (λ ks. 1 ∷ ks) (ones ls)
 
 module _ (items ends counts counts' : List ℕ) (c v : Item) where
   abbrev after : Bool → List ℕ
-  after b = skip (bound (lists_of items ends)) (order_of b) (view_of b) (lists_of items ends) (front_of c) (take (length ends) counts)
+  after b = skip (suc (total (lists_of items ends))) (order_of b) (view_of b) (lists_of items ends) (front_of c) (take (length ends) counts)
 
   pub next-or : (b : Bool) → b ≡ true → Moved (length ends) (after b) counts counts' → front_of v ≡ view_of b (queue items ends counts')
       → Handed (length ends) (next (op_of b) (lists_of items ends) (handed (length ends) counts c)) counts counts' v
@@ -67,7 +67,7 @@ module _ (items ends counts counts' : List ℕ) (c v : Item) where
   }
 
   pub next-and : (b : Bool) → b ≡ false → v.found ≡ true → Moved (length ends) (after b) counts counts' → front_of v ≡ view_of b (queue items ends counts') → (counts'' : List ℕ) (r : Item)
-      → Handed (length ends) (shrink (bound (lists_of items ends)) (lists_of items ends) (st v.start v.end) (take (length ends) counts')) counts' counts'' r
+      → Handed (length ends) (shrink (suc (total (lists_of items ends))) (lists_of items ends) (st v.start v.end) (take (length ends) counts')) counts' counts'' r
       → Handed (length ends) (next (op_of b) (lists_of items ends) (handed (length ends) counts c)) counts counts'' r
   unfolding queue
   next-and true e f m w counts'' r h = let z : ◌≡◌ {A = ℕ} 0 1 = cc in absurd (omega arith)

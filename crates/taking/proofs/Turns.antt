@@ -11,7 +11,7 @@ use lib.Dec.{eqb}
 use borrow.Author.Tests.{eq-eqb, ne_eqb, eqb-true, not-false}
 use Rattle.stretches.specs.Stretch.{Stretch, st}
 use Rattle.stretches.specs.Front.{Front, None, At}
-use Rattle.stretches.specs.Taking.{AnswerCounts, Order, fronts, top, span, contains, advance, starts_first, total, bound, skip, is_top, again, shrink}
+use Rattle.stretches.specs.Taking.{AnswerCounts, Order, fronts, top, span, contains, advance, starts_first, total, skip, is_top, again, shrink}
 use Rattle.stretches.specs.Lent.{pairs, lists_from, lists_of}
 use Rattle.meaning.specs.Refusals.{miscut_from, miscut}
 use Rattle.taking.specs.declared.queue.Item.{Item}
@@ -35,7 +35,7 @@ total-from at items (e ∷ ends) v h =
     omega (arith, total-from e items ends r.even r.rest, n, p, r.up)
 
 -- half the number of items, and one
-pub turns : (items ends : List ℕ) → miscut items ends ≡ false → length items / 2 + 1 ≡ bound (lists_of items ends)
+pub turns : (items ends : List ℕ) → miscut items ends ≡ false → length items / 2 + 1 ≡ suc (total (lists_of items ends))
 turns items ends h = omega (arith, total-from 0 items ends refl h)
 
 pub lent-kept : (items ends counts counts' : List ℕ) → Lent items ends counts → length counts' ≡ length counts → Lent items ends counts'
@@ -60,17 +60,17 @@ module _ (b : Bool) (items ends : List ℕ) (c : Front) where
   pub record Skipping (left : ℕ) (counts₀ counts : List ℕ) : Type 0 where
     pub wide : length counts ≡ length counts₀
     pub rest : drop (length ends) counts ≡ drop (length ends) counts₀
-    pub same : skipped (bound (lists_of items ends)) counts₀ ≡ skipped left counts
+    pub same : skipped (suc (total (lists_of items ends))) counts₀ ≡ skipped left counts
 
   pub skip-start : (counts : List ℕ) → miscut items ends ≡ false → Skipping (length items / 2 + 1) counts counts
   skip-start counts h = record { wide = refl; rest = refl; same = ap (λ (m : ℕ). skipped m counts) (sym (turns items ends h)) }
 
   module _ (left : ℕ) (counts₀ counts : List ℕ) (s : Skipping left counts₀ counts) where
-    pub skip_stop : contains (view_of b (queue items ends counts)) c ≡ false → Moved (length ends) (skipped (bound (lists_of items ends)) counts₀) counts₀ counts
+    pub skip_stop : contains (view_of b (queue items ends counts)) c ≡ false → Moved (length ends) (skipped (suc (total (lists_of items ends))) counts₀) counts₀ counts
     unfolding queue
     skip_stop e = record { wide = s.wide; head = sym (s.same ∙ skip-off (order_of b) (view_of b) (lists_of items ends) c left (take (length ends) counts) e); rest = s.rest }
 
-    pub skip-done : left ≡ 0 → Moved (length ends) (skipped (bound (lists_of items ends)) counts₀) counts₀ counts
+    pub skip-done : left ≡ 0 → Moved (length ends) (skipped (suc (total (lists_of items ends))) counts₀) counts₀ counts
     skip-done e = record { wide = s.wide; head = sym (s.same ∙ ap (λ (m : ℕ). skipped m counts) e); rest = s.rest }
 
     pub skip-turn : (counts' : List ℕ) → 0 < left → contains (view_of b (queue items ends counts)) c ≡ true
@@ -107,7 +107,7 @@ again-off (At x) c ks f e = ap (λ v. cond v (f x) (hand c ks)) e
 
 module _ (items ends : List ℕ) (c₀ : Stretch) where
   abbrev goal : List ℕ → AnswerCounts
-  goal counts = shrink (bound (lists_of items ends)) (lists_of items ends) c₀ (take (length ends) counts)
+  goal counts = shrink (suc (total (lists_of items ends))) (lists_of items ends) c₀ (take (length ends) counts)
 
   -- with `left` turns left, the candidate and the counts lead to what they led to at first
   pub record Shrinking (left : ℕ) (counts₀ counts : List ℕ) (c : Item) : Type 0 where

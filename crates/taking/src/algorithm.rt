@@ -1,7 +1,7 @@
 // Algorithms 2 and 3 over lent lists: the counts are kept in the lent cells, one for each list.
-ghost use Rattle.std.specs.Prelude.{◌≡◌, true, ◌≤◌, length, take, replicate};
+ghost use Rattle.std.specs.Prelude.{suc, ◌≡◌, true, ◌≤◌, length, take, replicate};
 ghost use Rattle.stretches.specs.Stretch.{st};
-ghost use Rattle.stretches.specs.Taking.{bound, skip, is_top, shrink, next, taking};
+ghost use Rattle.stretches.specs.Taking.{total, skip, is_top, shrink, next, taking};
 ghost use Rattle.stretches.specs.Lent.{lists_of};
 ghost use Rattle.taking.specs.inner.Queue.{front_of, order_of, view_of, op_of, Lent, queue, handed, Moved, Handed};
 
@@ -22,7 +22,7 @@ fn view(by_end: bool, items: &[u32], ends: &[u32], counts: &[u32]) -> Item
 // Lines 2 to 4: while the view contains c, advance.
 fn skip(by_end: bool, items: &[u32], ends: &[u32], counts: &mut [u32], c: Item)
     requires { Lent items.now ends.now counts.old }
-    ensures { Moved (length ends.now) (skip (bound (lists_of items.now ends.now)) (order_of by_end) (view_of by_end) (lists_of items.now ends.now) (front_of c) (take (length ends.now) counts.old)) counts.old counts.new }
+    ensures { Moved (length ends.now) (skip (suc (total (lists_of items.now ends.now))) (order_of by_end) (view_of by_end) (lists_of items.now ends.now) (front_of c) (take (length ends.now) counts.old)) counts.old counts.new }
 {
     let mut left = items.len() / 2 + 1;
     while 0 < left {
@@ -52,7 +52,7 @@ fn is_top(x: Item, c: Item) -> bool
 fn shrink(items: &[u32], ends: &[u32], counts: &mut [u32], first: Item) -> Item
     requires lent { Lent items.now ends.now counts.old }
     requires found_value { first.found ≡ true }
-    ensures { Handed (length ends.now) (shrink (bound (lists_of items.now ends.now)) (lists_of items.now ends.now) (st first.start first.end) (take (length ends.now) counts.old)) counts.old counts.new result }
+    ensures { Handed (length ends.now) (shrink (suc (total (lists_of items.now ends.now))) (lists_of items.now ends.now) (st first.start first.end) (take (length ends.now) counts.old)) counts.old counts.new result }
 {
     let mut c = first;
     let mut left = items.len() / 2 + 1;
