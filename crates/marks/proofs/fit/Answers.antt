@@ -5,12 +5,10 @@ use mathlib.Core.Bool.{true, ◌&&◌}
 use native.Mathlib.Nat.{le-div_iff_mul-le, div-lt_iff_lt-mul, mul-zero}
 use native.Mathlib.Omega.{arith}
 use lib.Dec.{leb}
-use borrow.Author.Rules.{rules}
 use borrow.Author.Tests.{le-leb, lt-leb, leb-true, leb-false}
 use Rattle.basics.proofs.Basics.{cases}
 use Rattle.marks.specs.Row.{fit}
-use Rattle.marks.proofs.fit.Statement.{statement}
-use Rattle.marks.proofs.fit.Tie as tie
+use Rattle.marks.proofs.fit.Goals as goal
 
 -- rows without words
 thin : (n w len : ℕ) → w ≡ 0 → true ≡ fit n w len
@@ -26,14 +24,11 @@ wide n w len h p = sym (ap (λ b. b && leb (n * w) len) (le-leb w 1024 h) ∙ sa
     same = cases (leb n (len / w)) (λ b. leb (n * w) len ≡ b) (λ e. le-leb (n * w) len ((le-div_iff_mul-le pos).0 (leb-true n (len / w) e)))
         (λ e. lt-leb (n * w) len ((div-lt_iff_lt-mul pos).0 (leb-false n (len / w) e)))
 
-returns : tie.Need-returns
-returns c = simp (lt-leb _ _ c.if1.true)
+pub returns-then-width-gt-WIDEST : goal.returns-then-width-gt-WIDEST
+returns-then-width-gt-WIDEST c = simp (lt-leb _ _ c.if-width-gt-WIDEST.true)
 
-returns-2 : tie.Need-returns-2
-returns-2 c = thin _ _ _ c.if2.true
+pub returns-then-width-eq0 : goal.returns-then-width-eq0
+returns-then-width-eq0 c = thin _ _ _ c.if-width-eq0.true
 
-returns-3 : tie.Need-returns-3
-returns-3 c = wide _ _ _ c.before.if1.false c.if2.false
-
-pub fit_spec : {M : Type 1} → statement M
-fit_spec = tie.close (tie.spec returns returns-2 (λ c. search rules) returns-3)
+pub returns : goal.returns
+returns c = wide _ _ _ c.if-width-gt-WIDEST.false c.if-width-eq0.false
