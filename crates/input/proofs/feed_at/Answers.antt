@@ -1,12 +1,7 @@
 -- `input::feed_at` meets its contract. The loop's invariant: no line feed is before place i.
 -- Assumes nothing.
-use Prim.Native.Nat.{◌+◌, ◌-◌, ◌≤◌}
-use mathlib.Core.Path.{◌≡◌}
 use native.Mathlib.Omega.{arith}
-use lib.ListN.{length, drop}
-use Rattle.input.specs.Input.{pattern_of}
 use Rattle.input.proofs.Keeping.{feed-here, feed-later, feed-none}
-use borrow.Author.Rules.{rules}
 use Rattle.input.proofs.feed_at.Goals as goal
 
 pub returns-then-piece-i-eq10 : goal.returns-then-piece-i-eq10

@@ -2,11 +2,8 @@
 -- Assumes nothing.
 use Prim.Native.Nat.{◌+◌, ◌-◌, ◌≤◌}
 use mathlib.Core.Path.{◌≡◌}
-use native.Mathlib.Omega.{arith}
 use lib.ListN.{length, drop}
 use Rattle.input.specs.Input.{pattern_of}
-use Rattle.input.proofs.Keeping.{feed-here, feed-later, feed-none}
-use borrow.Author.Rules.{rules}
 use Rattle.input.proofs.feed_at.Given as goal
 
 abbrev pub invariant-loop-i : goal.invariant-loop-i

@@ -1,12 +1,10 @@
 -- `input::keep` meets its contract. The loop's invariant: the bytes from number i on, stored from `at` on, would end the copying.
 -- Assumes nothing.
-use Prim.Native.Nat.{◌+◌, ◌-◌, ◌≤◌}
-use mathlib.Core.Path.{◌≡◌, refl, sym, ap, ◌∙◌}
+use mathlib.Core.Path.{refl, sym, ap, ◌∙◌}
 use native.Mathlib.Omega.{arith}
-use lib.ListN.{length, get_or, drop, length-set, drop_of_length-le}
+use lib.ListN.{get_or, drop, length-set, drop_of_length-le}
 use lib.Seq.{sets}
 use Rattle.input.proofs.Keeping.{sets-past, sets-next}
-use borrow.Author.Rules.{rules}
 use Rattle.input.proofs.keep.Goals as goal
 
 pub loop-i-init : goal.loop-i-init

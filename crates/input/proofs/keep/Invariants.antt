@@ -1,12 +1,9 @@
 -- `input::keep` meets its contract. The loop's invariant: the bytes from number i on, stored from `at` on, would end the copying.
 -- Assumes nothing.
 use Prim.Native.Nat.{◌+◌, ◌-◌, ◌≤◌}
-use mathlib.Core.Path.{◌≡◌, refl, sym, ap, ◌∙◌}
-use native.Mathlib.Omega.{arith}
-use lib.ListN.{length, get_or, drop, length-set, drop_of_length-le}
+use mathlib.Core.Path.{◌≡◌}
+use lib.ListN.{length, drop}
 use lib.Seq.{sets}
-use Rattle.input.proofs.Keeping.{sets-past, sets-next}
-use borrow.Author.Rules.{rules}
 use Rattle.input.proofs.keep.Given as goal
 
 abbrev pub invariant-loop-i : goal.invariant-loop-i

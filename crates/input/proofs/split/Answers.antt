@@ -1,7 +1,6 @@
 -- `input::split` meets its contract.
 -- Assumes nothing.
 use Rattle.input.proofs.Keeping.{parts-log, parts_none, parts-feed}
-use borrow.Author.Rules.{rules}
 use Rattle.input.proofs.split.Goals as goal
 
 pub returns-then-ended : goal.returns-then-ended

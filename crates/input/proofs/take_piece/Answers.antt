@@ -3,7 +3,6 @@
 use mathlib.Core.Path.{sym}
 use lib.Seq.{length-take-le}
 use Rattle.input.proofs.Keeping.{parts-kept}
-use borrow.Author.Rules.{rules}
 use Rattle.input.proofs.take_piece.Goals as goal
 
 pub slice_bounds-keep-end : goal.slice_bounds-keep-end
@@ -14,4 +13,4 @@ returns c = let a = c.args in
     let d = c.split-p in
     let k = c.keep-kept_pattern in
     let j = c.keep-kept_log in
-    parts-kept a.piece.now a.t d.result a.pattern.now a.log.now k.new.0 j.new.0 k.result j.result d.ensures k.ensures j.ensures
+    parts-kept a.piece.now a.t d.result a.pattern.now a.log.now k.new.buffer j.new.buffer k.result j.result d.ensures k.ensures j.ensures
