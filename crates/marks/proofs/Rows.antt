@@ -2,13 +2,13 @@
 use Prim.Native.Nat.{ℕ, suc, ◌+◌, ◌*◌, ◌^◌, ◌≤◌, ◌<◌}
 use mathlib.Core.Path.{◌≡◌, sym, ap, ap₂, ◌∙◌}
 use mathlib.Core.Logic.{◌⊎◌, inl, inr, ⊎_elim}
-use mathlib.Core.Bool.{Bool, true, false, not, cond, ◌&&◌}
+use mathlib.Core.Bool.{Bool, true, false, cond, ◌&&◌}
 use mathlib.Core.List.{List, [], ◌∷◌, ◌++◌, append-nil}
 use native.Mathlib.Omega.{arith}
 use lib.ListN.{length, get_or, take, drop, length-take, length-drop}
 use lib.Seq.{get_or-take, get_or-drop, take-suc, ext_get_or}
 use lib.Dec.{leb, ltb}
-use borrow.Author.Tests.{leb-true, ltb-true, ltb-false, le-leb, lt-leb, lt-ltb, le-ltb, not-true, not-false}
+use borrow.Author.Tests.{leb-true, ltb-true, ltb-false, le-leb, lt-leb, lt-ltb, le-ltb}
 use Rattle.basics.proofs.Basics.{cases, and-true, true-and}
 use Rattle.marks.specs.Row.{bits, flags, lies, row}
 use Rattle.marks.proofs.Flags.{length-flags, flags-append}
@@ -44,11 +44,11 @@ pub let-in : (words : List ℕ) (at width : ℕ) → lies (length words) at widt
 let-in words at width h = let k = lies-true (length words) at width h in record { inside = h; ends = k.0; few = k.1 }
 
 -- a test's result, where the code goes on past `if !r`, and where it does not
-pub said-yes : {r b : Bool} → r ≡ b → not r ≡ false → b ≡ true
-said-yes {r} e h = sym e ∙ not-false r h
+pub said-yes : {r b : Bool} → r ≡ b → r ≡ true → b ≡ true
+said-yes e h = sym e ∙ h
 
-pub said-no : {r b : Bool} → r ≡ b → not r ≡ true → b ≡ false
-said-no {r} e h = sym e ∙ not-true r h
+pub said-no : {r b : Bool} → r ≡ b → r ≡ false → b ≡ false
+said-no e h = sym e ∙ h
 
 -- ── Its words and lines ──
 

@@ -48,11 +48,11 @@ same_length : (t : ℕ) → lts.Need-same-length (R t) (at t) show-node.Post inv
 same_length t c = search rules
 
 returns : (t : ℕ) → lts.Need-returns (R t) (at t) show-node.Post invariant-loop decreases-loop
-returns t c = (node-leaf c.before.before.before.before.before.put.ensures (sym c.before.is_IsLeaf.ensures ∙ c.if1.true), c.before.before.before.before.before.before.before.before.before.before.before.requires.1.1)
+returns t c = (node-leaf c.before.before.before.before.before.put.ensures (sym c.before.is_leaf.ensures ∙ c.if1.true), c.before.before.before.before.before.before.before.before.before.before.before.requires.1.1)
 
 loop-holds : (t : ℕ) → lts.Need-loop-init (R t) (at t) show-node.Post invariant-loop decreases-loop
 loop-holds t c =
-    (omega arith, refl, c.before.before.before.before.before.before.before.before.before.before.before.before.before.before.requires.1.1, node-start (sym c.before.before.before.before.is_IsLeaf.ensures ∙ c.before.before.before.if1.false) c.before.before.shows-each.ensures c.before.is-chain.ensures refl)
+    (omega arith, refl, c.before.before.before.before.before.before.before.before.before.before.before.before.before.before.requires.1.1, node-start (sym c.before.before.before.before.is_leaf.ensures ∙ c.before.before.before.if1.false) c.before.before.shows-each.ensures c.before.is-chain.ensures refl)
 
 operand-requires : (t : ℕ) → lts.Need-operand-requires (R t) (at t) show-node.Post invariant-loop decreases-loop
 operand-requires t c κs = (c.before.before.before.before.before.before.before.before.before.before.before.before.before.before.before.before.before.requires.1.0, c.before.before.loop.invariant.2, omega (arith, c.before.before.before.stop-of.ensures.0))
