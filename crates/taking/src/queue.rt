@@ -17,7 +17,7 @@ pub struct Item {
 }
 
 // The top of the queue, and the number of its list.
-#[derive(Drop)]
+#[derive(Clone, Copy)]
 pub struct Top {
     pub item: Item,
     pub list: usize,
