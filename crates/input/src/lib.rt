@@ -12,7 +12,7 @@ use std::io;
 use std::io::Read;
 
 // What has been taken in: whether the pattern's line feed has come, and how many bytes of pattern and log are kept.
-#[derive(Drop)]
+#[derive(Clone, Copy)]
 pub struct Intake {
     pub ended: bool,
     pub pattern: usize,
@@ -20,7 +20,7 @@ pub struct Intake {
 }
 
 // Where a piece parts: the pattern's bytes are before `cut`, the log's from `next` on.
-#[derive(Drop)]
+#[derive(Clone, Copy)]
 struct Parting {
     ended: bool,
     cut: usize,

@@ -84,7 +84,7 @@ fn small(n: usize) -> u32 {
 }
 
 // What a line has before its lists; all: how many numbers the items and the ends are.
-#[derive(Drop)]
+#[derive(Clone, Copy)]
 struct Head {
     taking: usize,
     op: u32,

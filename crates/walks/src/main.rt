@@ -15,7 +15,7 @@ use records::Record;
 use std::io;
 
 // What came one by one, and whether it is what was filled.
-#[derive(Drop)]
+#[derive(Clone, Copy)]
 struct Walked {
     count: usize,
     agrees: bool,
@@ -115,7 +115,7 @@ fn line(log: &[u8], way: usize, p: usize, at: usize, before: usize) -> Reading {
 }
 
 // A leaf asks for a code or a frame on a lane, 0 being any lane.
-#[derive(Drop)]
+#[derive(Clone, Copy)]
 struct Leaf {
     by_frame: bool,
     value: u16,
@@ -135,7 +135,7 @@ fn matches(leaf: Leaf, r: Record) -> bool {
 }
 
 // Whether there is a line, whether the leaf matches it, and the place after it.
-#[derive(Drop)]
+#[derive(Clone, Copy)]
 struct Seen {
     line: bool,
     hit: bool,
