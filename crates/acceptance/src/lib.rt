@@ -10,7 +10,7 @@ use nodes::TABLE;
 use pattern::Verdict;
 
 // The refusal's number (0: accepted) and place, and the pattern's table.
-#[derive(Drop)]
+#[derive(Clone, Copy)]
 pub struct Readied {
     pub number: usize,
     pub place: usize,

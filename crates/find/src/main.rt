@@ -6,41 +6,38 @@ ghost use Rattle.find.specs.Reading.{Turned, Gathered, Held, Prints};
 
 use basics::first;
 use input::Intake;
-use libc::{STDIN_FILENO, STDOUT_FILENO};
+use std::io;
+use std::io::{ErrorKind, Read, Write};
 
 // What a turn of reading gave: a piece, taken in; the end of the input; or a failure.
 #[derive(Drop)]
 enum Turn {
     More(Intake),
     End,
-    Failed,
+    Failed(io::Error),
 }
 
 // What reading gave.
 #[derive(Drop)]
 enum Input {
     Read(Intake),
-    Failed,
+    Failed(io::Error),
 }
 
 // Reads once, and takes in what came.
-fn read_piece(t: Intake, pattern: &mut [u8], log: &mut [u8]) -> Turn
+fn read_piece<R: Read>(from: &mut R, t: Intake, pattern: &mut [u8], log: &mut [u8]) -> Turn
     ensures { Turned t pattern.old log.old result pattern.new log.new }
 {
-    let mut piece = io::large_buffer();
-    let got = libc::read(STDIN_FILENO, &mut piece);
-    if got < 0 {
-        return Turn::Failed;
+    let mut piece = [0u8; 65536];
+    match from.read(&mut piece) {
+        Err(error) => Turn::Failed(error),
+        Ok(0) => Turn::End,
+        Ok(n) => Turn::More(input::take_piece(&piece[..n], t, pattern, log)),
     }
-    if got == 0 {
-        return Turn::End;
-    }
-    let n = io::count(got, &piece);
-    Turn::More(input::take_piece(&piece[..n], t, pattern, log))
 }
 
-// Reads standard input to its end. The turns are counted down from a number that no run uses up.
-fn read_all(pattern: &mut [u8], log: &mut [u8]) -> Input
+// Reads an input to its end. The turns are more than any run uses up.
+fn read_all<R: Read>(from: &mut R, pattern: &mut [u8], log: &mut [u8]) -> Input
     ensures { Gathered result pattern.new log.new }
 {
     let mut t = Intake {
@@ -48,22 +45,20 @@ fn read_all(pattern: &mut [u8], log: &mut [u8]) -> Input
         pattern: 0,
         log: 0,
     };
-    let mut turns = u64::MAX;
-    while 0 < turns {
-        match read_piece(t, pattern, log) {
+    for _ in 0..u64::MAX {
+        match read_piece(from, t, pattern, log) {
             Turn::More(next) => {
                 t = next;
-                turns -= 1;
             }
             Turn::End => {
                 return Input::Read(t);
             }
-            Turn::Failed => {
-                return Input::Failed;
+            Turn::Failed(error) => {
+                return Input::Failed(error);
             }
         }
     }
-    Input::Failed
+    Input::Failed(io::Error::from(ErrorKind::FileTooLarge))
 }
 
 // Room for every sheet: a log of 61,440 bytes has at most as many lines, a search no more answers than lines, and a printed
@@ -74,22 +69,48 @@ fn sheet_buffer() -> [u8; 800000]
     [0; 800000]
 }
 
+// The words of an error, of which those of a system's error end before its number.
+fn words(said: &[u8]) -> &[u8] {
+    let number = b" (os error ";
+    let mut n = 0;
+    while n < said.len() {
+        if said[n..].starts_with(number) {
+            return &said[..n];
+        }
+        n += 1;
+    }
+    said
+}
+
+// Says in a line what failed and why; where even that fails, there is no one to tell.
+fn fail(rt: &HostRuntime, what: &[u8], error: io::Error) -> io::Result<()> {
+    let mut said = [0u8; 128];
+    let mut room = &mut said[..];
+    write!(room, "{error}")?;
+    let used = 128 - room.len();
+    let to = rt.stderr();
+    Print::write_all(&to, what)?;
+    Print::write_all(&to, b": ")?;
+    Print::write_all(&to, words(&said[..used]))?;
+    Print::write_all(&to, b"\n")
+}
+
 // Writes a sheet to standard output, or says why it cannot. The buffers only say whose sheet it is: that of the input that was read.
-fn put(t: Intake, pattern: &[u8], log: &[u8], bytes: &[u8])
+fn put(rt: &HostRuntime, t: Intake, pattern: &[u8], log: &[u8], bytes: &[u8])
     requires { Prints t pattern.now log.now bytes.now }
 {
-    if !io::write_all(STDOUT_FILENO, bytes) {
-        os::fail(b"standard output");
+    if let Err(error) = rt.write_all(bytes) {
+        let _ = fail(rt, b"standard output", error);
     }
 }
 
 // Prints the sheet of what was read.
-fn print(t: Intake, pattern: &[u8], log: &[u8])
+fn print(rt: &HostRuntime, t: Intake, pattern: &[u8], log: &[u8])
     requires { Held t pattern.now log.now }
 {
     let mut out = sheet_buffer();
     let n = sheet::print_sheet(first(pattern, t.pattern), first(log, t.log), &mut out);
-    put(t, pattern, log, first(&out, n));
+    put(rt, t, pattern, log, first(&out, n));
 }
 
 // The bytes kept of pattern and log: one more than are accepted.
@@ -98,15 +119,15 @@ const PATTERN_KEPT: usize = 1025;
 const LOG_KEPT: usize = 61441;
 
 // Keeps one byte more of pattern and log than are accepted, so that longer ones are refused as if they were whole.
-fn main() {
+fn main(rt: HostRuntime) {
     let mut pattern = [0u8; PATTERN_KEPT];
     let mut log = [0u8; LOG_KEPT];
-    match read_all(&mut pattern, &mut log) {
+    match read_all(&mut rt.stdin(), &mut pattern, &mut log) {
         Input::Read(t) => {
-            print(t, &pattern, &log);
+            print(&rt, t, &pattern, &log);
         }
-        Input::Failed => {
-            os::fail(b"standard input");
+        Input::Failed(error) => {
+            let _ = fail(&rt, b"standard input", error);
         }
     }
 }

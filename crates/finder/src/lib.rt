@@ -25,7 +25,7 @@ const FOUND: usize = 128;
 
 // What a step keeps: the pattern's table, the next answers found, start then end, how many they are and how many of them were given, the line from
 // which the following ones are sought, and whether none follow. Not live: it only says none.
-#[derive(Drop)]
+#[derive(Clone, Copy)]
 pub struct Finder {
     pub live: bool,
     pub rows: [usize; TABLE],
@@ -37,14 +37,14 @@ pub struct Finder {
 }
 
 // The next stretch, or none.
-#[derive(Drop)]
+#[derive(Clone, Copy)]
 pub enum Answer {
     None,
     Stretch { start: u32, end: u32 },
 }
 
 // The refusal's number (0: accepted) and place, and the finder.
-#[derive(Drop)]
+#[derive(Clone, Copy)]
 pub struct Opened {
     pub number: usize,
     pub place: usize,
@@ -52,7 +52,7 @@ pub struct Opened {
 }
 
 // An answer, and the finder for the next step.
-#[derive(Drop)]
+#[derive(Clone, Copy)]
 pub struct Stepped {
     pub answer: Answer,
     pub finder: Finder,

@@ -1,14 +1,18 @@
-// Standard input taken in piece by piece: the pattern up to the first line feed, then the log.
+// An input read whole; and one taken in piece by piece: the pattern up to the first line feed, then the log.
 #![tactic(auto)]
 
-ghost use Rattle.std.specs.Prelude.{◌≡◌, min, length};
+ghost use Rattle.std.specs.Prelude.{◌≡◌, min, length, take, IfOk};
+ghost use Rattle.std.specs.Io.{ReadsAtMost};
+ghost use Rattle.std.specs.Io.KnownBytes.{Consumes};
 ghost use Rattle.input.specs.Input.{pattern_of, Kept, TakenIn};
 ghost use Rattle.input.specs.inner.Parting.{Parts};
 
 use basics::shorter;
+use std::io;
+use std::io::Read;
 
 // What has been taken in: whether the pattern's line feed has come, and how many bytes of pattern and log are kept.
-#[derive(Drop)]
+#[derive(Clone, Copy)]
 pub struct Intake {
     pub ended: bool,
     pub pattern: usize,
@@ -16,7 +20,7 @@ pub struct Intake {
 }
 
 // Where a piece parts: the pattern's bytes are before `cut`, the log's from `next` on.
-#[derive(Drop)]
+#[derive(Clone, Copy)]
 struct Parting {
     ended: bool,
     cut: usize,
@@ -94,4 +98,20 @@ pub fn take_piece(piece: &[u8], t: Intake, pattern: &mut [u8], log: &mut [u8]) -
         pattern: kept_pattern,
         log: kept_log,
     }
+}
+
+// Reads until the buffer is full or the input ends, and gives the number of bytes read: they stand first in the buffer.
+pub fn read_whole<R: Read>(from: &mut R, buffer: &mut [u8]) -> io::Result<usize>
+    ensures in_bounds { ReadsAtMost result buffer.new }
+    ensures bytes { IfOk result (λ n. Consumes (R.remaining from.old) (R.remaining from.new) (take n buffer.new)) }
+{
+    let mut used = 0;
+    while used < buffer.len() {
+        let n = from.read(&mut buffer[used..])?;
+        if n == 0 {
+            break;
+        }
+        used += n;
+    }
+    Ok(used)
 }

@@ -9,16 +9,17 @@
 #![tactic(auto)]
 
 use basics::wide;
-use libc::{STDIN_FILENO, STDOUT_FILENO};
+use input::read_whole;
+use std::io;
 
-fn put(b: u8) {
-    io::write_all(STDOUT_FILENO, &[b]);
+fn put(rt: &impl Print, b: u8) -> io::Result<()> {
+    rt.write_all(&[b])
 }
 
 // A comma and a number.
-fn show(n: usize) {
-    put(b',');
-    io::print_decimal(STDOUT_FILENO, n as u64);
+fn show(rt: &impl Print, n: usize) -> io::Result<()> {
+    put(rt, b',')?;
+    rt.print(n)
 }
 
 fn flag(b: bool) -> usize {
@@ -26,23 +27,31 @@ fn flag(b: bool) -> usize {
 }
 
 // All numbers, and a line feed.
-fn show_all(s: &[u32]) {
+fn show_all(rt: &impl Print, s: &[u32]) -> io::Result<()> {
     let mut i: usize = 0;
     while i < s.len() {
-        show(wide(s[i]));
+        show(rt, wide(s[i]))?;
         i += 1;
     }
-    put(b'\n');
+    put(rt, b'\n')
 }
 
 // The line of a call.
-fn line(letter: u8, a: usize, b: usize, c: usize, d: usize, cells: &[u32]) {
-    put(letter);
-    show(a);
-    show(b);
-    show(c);
-    show(d);
-    show_all(cells);
+fn line(
+    rt: &impl Print,
+    letter: u8,
+    a: usize,
+    b: usize,
+    c: usize,
+    d: usize,
+    cells: &[u32],
+) -> io::Result<()> {
+    put(rt, letter)?;
+    show(rt, a)?;
+    show(rt, b)?;
+    show(rt, c)?;
+    show(rt, d)?;
+    show_all(rt, cells)
 }
 
 // A number with one more digit, the greatest where that is too great.
@@ -75,7 +84,7 @@ fn small(n: usize) -> u32 {
 }
 
 // What a line has before its lists; all: how many numbers the items and the ends are.
-#[derive(Drop)]
+#[derive(Clone, Copy)]
 struct Head {
     taking: usize,
     op: u32,
@@ -129,61 +138,72 @@ fn part(s: &[u32], from: usize, to: usize) -> &[u32] {
 }
 
 // Makes a call with the cells from one place to another.
-fn make(h: Head, items: &[u32], ends: &[u32], cells: &mut [u32], from: usize, to: usize) {
+fn make(
+    rt: &impl Print,
+    h: Head,
+    items: &[u32],
+    ends: &[u32],
+    cells: &mut [u32],
+    from: usize,
+    to: usize,
+) -> io::Result<()> {
     if to < from {
-        return;
+        return Ok(());
     }
     if cells.len() < to {
-        return;
+        return Ok(());
     }
     let lent = &mut cells[from..to];
     if h.taking == 0 {
         let r = lists::fill(h.op, h.k, items, ends, lent, h.number);
-        line(b'F', r.number, r.place, r.count, flag(r.more), lent);
+        line(rt, b'F', r.number, r.place, r.count, flag(r.more), lent)
     } else {
         let r = taking::take(h.op, items, ends, lent, h.number);
         line(
+            rt,
             b'T',
             r.number,
             flag(r.found),
             wide(r.start),
             wide(r.end),
             lent,
-        );
+        )
     }
 }
 
 // Makes the call on the line at a place.
-fn call(input: &[u8], at: &mut usize) {
+fn call(rt: &impl Print, input: &[u8], at: &mut usize) -> io::Result<()> {
     let h = read_head(input, at);
     let mut list = [0u32; 96];
     numbers(input, at, &mut list, h.all);
     let mut cells = [7u32; 32];
     make(
+        rt,
         h,
         part(&list, 0, h.items),
         part(&list, h.items, h.all),
         &mut cells,
         0,
         h.lent,
-    );
+    )
 }
 
 // Every line: as many as there are bytes at most.
-fn calls(input: &[u8]) {
+fn calls(rt: &impl Print, input: &[u8]) -> io::Result<()> {
     let mut at = 0;
     let mut k = 0;
     while k < input.len() {
         if input.len() <= at {
-            return;
+            return Ok(());
         }
-        call(input, &mut at);
+        call(rt, input, &mut at)?;
         k += 1;
     }
+    Ok(())
 }
 
-fn main() {
-    let mut input = io::large_buffer();
-    let n = io::read_full(STDIN_FILENO, &mut input);
-    calls(&input[..n]);
+fn main(rt: HostRuntime) -> io::Result<()> {
+    let mut input = [0u8; 65536];
+    let n = read_whole(&mut rt.stdin(), &mut input)?;
+    calls(&rt, &input[..n])
 }

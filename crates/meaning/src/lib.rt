@@ -2,7 +2,7 @@
 #![tactic(auto)]
 
 // What a filling call returns. A refusal has its number and place, and count 0; number 0: accepted. `more`: a further answer exists.
-#[derive(Drop)]
+#[derive(Clone, Copy)]
 pub struct Filled {
     pub number: usize,
     pub place: usize,
@@ -11,7 +11,7 @@ pub struct Filled {
 }
 
 // What a call that gives a number returns: the refusal's number (0: accepted) and place, and the count, 0 where it is refused.
-#[derive(Drop)]
+#[derive(Clone, Copy)]
 pub struct Reply {
     pub number: usize,
     pub place: usize,

@@ -29,7 +29,7 @@ const WORD: [[u8; 4]; KINDS] = [
 
 // How many numbers follow a word, the least and the greatest value of each, whether the first of them is the number of operands, and how many
 // operands there are else.
-#[derive(Drop)]
+#[derive(Clone, Copy)]
 struct Shape {
     numbers: usize,
     least: [usize; 3],

@@ -15,7 +15,7 @@ use scanner::scan;
 use tree::{measure, tabled};
 
 // The nodes in preorder: node v's kind at v, its subtree's size at 32 + v, its three numbers at 64 + v, 96 + v and 128 + v; zeros elsewhere.
-#[derive(Drop)]
+#[derive(Clone, Copy)]
 pub struct Table {
     pub count: usize,
     pub rows: [usize; TABLE],
@@ -27,7 +27,7 @@ const PATTERN_MAX: usize = 1024;
 const DEPTH_MAX: usize = 8;
 
 // Accepted, or refused: too long, misspelt with the place, crowded, deep.
-#[derive(Drop)]
+#[derive(Clone, Copy)]
 pub enum Verdict {
     Accepted,
     Long,
@@ -37,14 +37,14 @@ pub enum Verdict {
 }
 
 // The verdict, with the table of an accepted pattern; a refused text has the table of no nodes.
-#[derive(Drop)]
+#[derive(Clone, Copy)]
 pub struct Parsed {
     pub verdict: Verdict,
     pub table: Table,
 }
 
 // What has been read of a symbol, and the number of trees still to come, the present one counted.
-#[derive(Drop)]
+#[derive(Clone, Copy)]
 enum State {
     // letters: of a row's word, the first so many
     Letters {
@@ -72,7 +72,7 @@ enum State {
 }
 
 // The numbers of a symbol, 0 for those that it has not.
-#[derive(Drop)]
+#[derive(Clone, Copy)]
 struct Values {
     pub first: usize,
     pub second: usize,
@@ -80,7 +80,7 @@ struct Values {
 }
 
 // What a byte does to a state.
-#[derive(Drop)]
+#[derive(Clone, Copy)]
 enum Step {
     // no pattern goes on so
     Dead,
@@ -96,7 +96,7 @@ enum Step {
 }
 
 // The symbols of a text, of which at most NODES are kept.
-#[derive(Drop)]
+#[derive(Clone, Copy)]
 struct Scanned {
     pub whole: bool,
     pub place: usize,
@@ -108,7 +108,7 @@ struct Scanned {
 }
 
 // The sizes of the subtrees, node by node, and the depth of the whole.
-#[derive(Drop)]
+#[derive(Clone, Copy)]
 struct Sizes {
     pub size: [usize; NODES],
     pub depth: usize,

@@ -4,9 +4,10 @@
 // The patterns stand in standard input, each with a semicolon and a line feed behind it; a line feed before the semicolon is the pattern's own.
 #![tactic(auto)]
 
-use libc::{STDIN_FILENO, STDOUT_FILENO};
+use input::read_whole;
 use nodes::TABLE;
 use pattern::Verdict;
+use std::io;
 
 // The last decimal digit.
 fn digit(n: usize) -> u8 {
@@ -14,7 +15,7 @@ fn digit(n: usize) -> u8 {
 }
 
 // A number in five digits, and the byte after it.
-fn field(n: usize, after: u8) {
+fn field(rt: &impl Print, n: usize, after: u8) -> io::Result<()> {
     let line = [
         digit(n / 10000),
         digit(n / 1000),
@@ -23,46 +24,48 @@ fn field(n: usize, after: u8) {
         digit(n),
         after,
     ];
-    io::write_all(STDOUT_FILENO, &line);
+    rt.write_all(&line)
 }
 
-fn show(letter: u8, number: u8, value: usize) {
+fn show(rt: &impl Print, letter: u8, number: u8, value: usize) -> io::Result<()> {
     let line = [letter, 44u8, number, 44u8];
-    io::write_all(STDOUT_FILENO, &line);
-    field(value, 10u8);
+    rt.write_all(&line)?;
+    field(rt, value, 10u8)
 }
 
-fn answer(text: &[u8]) {
+fn answer(rt: &impl Print, text: &[u8]) -> io::Result<()> {
     let r = pattern::read(text);
     let v = r.verdict;
     match v {
-        Verdict::Accepted => show(b'A', b'0', r.table.count),
-        Verdict::Long => show(b'R', b'2', 0),
-        Verdict::Misspelt(p) => show(b'R', b'3', p),
-        Verdict::Crowded => show(b'R', b'4', 0),
-        Verdict::Deep => show(b'R', b'5', 0),
+        Verdict::Accepted => show(rt, b'A', b'0', r.table.count),
+        Verdict::Long => show(rt, b'R', b'2', 0),
+        Verdict::Misspelt(p) => show(rt, b'R', b'3', p),
+        Verdict::Crowded => show(rt, b'R', b'4', 0),
+        Verdict::Deep => show(rt, b'R', b'5', 0),
     }
 }
 
 // The entries of node v: kind, size, first and second number.
-fn row(rows: [usize; TABLE], v: usize) {
+fn row(rt: &impl Print, rows: [usize; TABLE], v: usize) -> io::Result<()> {
     if v < 32 {
-        field(rows[v], 44u8);
-        field(rows[32 + v], 44u8);
-        field(rows[64 + v], 44u8);
-        field(rows[96 + v], 10u8);
+        field(rt, rows[v], 44u8)?;
+        field(rt, rows[32 + v], 44u8)?;
+        field(rt, rows[64 + v], 44u8)?;
+        field(rt, rows[96 + v], 10u8)?;
     }
+    Ok(())
 }
 
 // A table: its nodes, and the entry past them.
-fn entries(text: &[u8]) {
+fn entries(rt: &impl Print, text: &[u8]) -> io::Result<()> {
     let r = pattern::read(text);
     let rows = r.table.rows;
     let mut v = 0;
     while v < 14 {
-        row(rows, v);
+        row(rt, rows, v)?;
         v += 1;
     }
+    Ok(())
 }
 
 // The place of the next semicolon; the end where there is none.
@@ -89,24 +92,24 @@ fn part(input: &[u8], from: usize, to: usize) -> &[u8] {
 }
 
 // Every pattern: fewer than there are bytes.
-fn patterns(input: &[u8]) {
+fn patterns(rt: &impl Print, input: &[u8]) -> io::Result<()> {
     let mut at = 0;
     let mut left = input.len();
     while 1 < left {
         let to = stop(input, at);
         let text = part(input, at, to);
         if input.len() - 2 <= to {
-            entries(text);
-            return;
+            return entries(rt, text);
         }
-        answer(text);
+        answer(rt, text)?;
         at = to + 2;
         left -= 1;
     }
+    Ok(())
 }
 
-fn main() {
-    let mut input = io::large_buffer();
-    let n = io::read_full(STDIN_FILENO, &mut input);
-    patterns(&input[..n]);
+fn main(rt: HostRuntime) -> io::Result<()> {
+    let mut input = [0u8; 65536];
+    let n = read_whole(&mut rt.stdin(), &mut input)?;
+    patterns(&rt, &input[..n])
 }

@@ -13,7 +13,7 @@ ghost use Rattle.row_search.specs.Found.{found};
 use marks::inside;
 
 // The first marked line from a line on. Where hit is false there is none, and line is 0.
-#[derive(Drop)]
+#[derive(Clone, Copy)]
 pub struct Found {
     pub hit: bool,
     pub line: usize,

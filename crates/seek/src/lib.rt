@@ -24,7 +24,7 @@ pub const STATE: usize = 192;
 pub const NONE: u32 = 65536;
 
 // The stretch from start to end; none where both are 65,536, one past every line.
-#[derive(Drop)]
+#[derive(Clone, Copy)]
 pub struct Front {
     pub start: u32,
     pub end: u32,

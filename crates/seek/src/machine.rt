@@ -20,7 +20,7 @@ use nodes::{
 };
 
 // `or`: the best of the operands' fronts.
-#[cycle(advance_chain_filter_fresh_look_at_passes_reach_renew_seek_seek_or_span)]
+#[cycle(searching)]
 fn seek_or(
     rows: &[usize; TABLE],
     words: &[u64],
@@ -45,7 +45,7 @@ fn seek_or(
 }
 
 // `and`: the span of the operands' fronts from t on.
-#[cycle(advance_chain_filter_fresh_look_at_passes_reach_renew_seek_seek_or_span)]
+#[cycle(searching)]
 fn span(
     rows: &[usize; TABLE],
     words: &[u64],
@@ -75,7 +75,7 @@ fn span(
 }
 
 // `row` and `then`: the first operand's front from t on, then each next one's from past the one before. `row` is given up where one does not start there.
-#[cycle(advance_chain_filter_fresh_look_at_passes_reach_renew_seek_seek_or_span)]
+#[cycle(searching)]
 fn chain(
     rows: &[usize; TABLE],
     words: &[u64],
@@ -113,7 +113,7 @@ fn chain(
 }
 
 // The first stretch of v that ends at or after e: front by front from where v was passed over, so B of a filter moves forward only.
-#[cycle(advance_chain_filter_fresh_look_at_passes_reach_renew_seek_seek_or_span)]
+#[cycle(searching)]
 pub(crate) fn reach(
     rows: &[usize; TABLE],
     words: &[u64],
@@ -163,7 +163,7 @@ fn keeps(kind: usize, missed: bool) -> bool
 }
 
 // Whether a front of v's first operand passes the test of v's kind.
-#[cycle(advance_chain_filter_fresh_look_at_passes_reach_renew_seek_seek_or_span)]
+#[cycle(searching)]
 fn passes(
     rows: &[usize; TABLE],
     words: &[u64],
@@ -193,7 +193,7 @@ fn passes(
 }
 
 // The filters: the first operand's front from t on, good where it passes the test.
-#[cycle(advance_chain_filter_fresh_look_at_passes_reach_renew_seek_seek_or_span)]
+#[cycle(searching)]
 fn filter(
     rows: &[usize; TABLE],
     words: &[u64],
@@ -217,7 +217,7 @@ fn filter(
 }
 
 // What an operator but `or` offers first from t on.
-#[cycle(advance_chain_filter_fresh_look_at_passes_reach_renew_seek_seek_or_span)]
+#[cycle(searching)]
 fn look_at(
     rows: &[usize; TABLE],
     words: &[u64],
@@ -258,7 +258,7 @@ fn settles(kind: usize, end: u32) -> bool
 
 // Look by look to the front. `and` and `then`: the last look that still ends where the first does. `row` and the filters: the first look that is good.
 // A look that is no good is not better than none.
-#[cycle(advance_chain_filter_fresh_look_at_passes_reach_renew_seek_seek_or_span)]
+#[cycle(searching)]
 fn advance(
     rows: &[usize; TABLE],
     words: &[u64],
@@ -306,7 +306,7 @@ fn has_looks(kind: usize) -> bool
 }
 
 // The front of v of which nothing that serves is kept, by its kind. A kind that no list and no operator has finds none.
-#[cycle(advance_chain_filter_fresh_look_at_passes_reach_renew_seek_seek_or_span)]
+#[cycle(searching)]
 fn fresh(
     rows: &[usize; TABLE],
     words: &[u64],
@@ -336,7 +336,7 @@ fn fresh(
 }
 
 // The front of v, found anew and kept.
-#[cycle(advance_chain_filter_fresh_look_at_passes_reach_renew_seek_seek_or_span)]
+#[cycle(searching)]
 fn renew(
     rows: &[usize; TABLE],
     words: &[u64],
@@ -355,7 +355,7 @@ fn renew(
 }
 
 // Brings node v to its first stretch that starts at or after t. What is kept of it serves where it can.
-#[cycle(advance_chain_filter_fresh_look_at_passes_reach_renew_seek_seek_or_span)]
+#[cycle(searching)]
 pub(crate) fn seek(
     rows: &[usize; TABLE],
     words: &[u64],

@@ -11,7 +11,7 @@ ghost use Rattle.taking.specs.Taking.{take_result, take_cells};
 use algorithm::run;
 
 // What the taking call returns. number: the refusal, 0 where the call is accepted. Not found: "none", and start and end are 0.
-#[derive(Drop)]
+#[derive(Clone, Copy)]
 pub struct Taken {
     pub number: usize,
     pub found: bool,

@@ -9,7 +9,7 @@ ghost use Rattle.taking.specs.inner.Queue.{front_of, order_of, Lent, queue, bett
 use basics::{least, most, wide};
 
 // The item of a list that was taken last; not found: its end mark.
-#[derive(Drop)]
+#[derive(Clone, Copy)]
 pub struct Item {
     pub found: bool,
     pub start: u32,
@@ -17,7 +17,7 @@ pub struct Item {
 }
 
 // The top of the queue, and the number of its list.
-#[derive(Drop)]
+#[derive(Clone, Copy)]
 pub struct Top {
     pub item: Item,
     pub list: usize,

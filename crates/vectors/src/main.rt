@@ -4,13 +4,13 @@
 #![tactic(auto)]
 
 use basics::first;
-use libc::STDOUT_FILENO;
+use std::io;
 
 // Prints the sheet of a pattern and a log.
-fn show(pattern: &[u8], log: &[u8]) {
+fn show(rt: &impl Print, pattern: &[u8], log: &[u8]) -> io::Result<()> {
     let mut out = [0u8; 512];
     let n = sheet::print_sheet(pattern, log, &mut out);
-    io::write_all(STDOUT_FILENO, first(&out, n));
+    rt.write_all(first(&out, n))
 }
 
 // Writes the sheet of an operator over lent lists into out, with the lines of the log.
@@ -26,72 +26,77 @@ fn search_lists(
     sheet::write_sheet(r, log, cells, out)
 }
 
-fn show_lists(op: u32, items: &[u32], ends: &[u32]) {
+fn show_lists(rt: &impl Print, op: u32, items: &[u32], ends: &[u32]) -> io::Result<()> {
     let mut cells = [0u32; 64];
     let mut out = [0u8; 512];
     let n = search_lists(op, items, ends, b"", &mut cells, &mut out);
-    io::write_all(STDOUT_FILENO, first(&out, n));
+    rt.write_all(first(&out, n))
 }
 
 // The cases of docs/FORMATS.md, "Worked cases", that programs run.
-fn cases() {
-    show(b"fr,10,0", b"2,4,12,10,3,0\n");
-    show(b"fr,3,0", b"2,4,12,10,3,0\n");
-    show(b"or,1,ev,1,0", b"");
-    show(b"ev,256,0", b"");
-    show(b"", b"");
-    show(b"max,9,max,9,max,9,max,9,max,9,max,9,max,9,ev,1,0", b"");
+fn cases(rt: &impl Print) -> io::Result<()> {
+    show(rt, b"fr,10,0", b"2,4,12,10,3,0\n")?;
+    show(rt, b"fr,3,0", b"2,4,12,10,3,0\n")?;
+    show(rt, b"or,1,ev,1,0", b"")?;
+    show(rt, b"ev,256,0", b"")?;
+    show(rt, b"", b"")?;
+    show(rt, b"max,9,max,9,max,9,max,9,max,9,max,9,max,9,ev,1,0", b"")?;
     show(
+        rt,
         b"max,9,max,9,max,9,max,9,max,9,max,9,max,9,max,9,ev,1,0",
         b"",
-    );
+    )
 }
 
 // 31 leaves are accepted, and one more node is one too many.
-fn nodes() {
+fn nodes(rt: &impl Print) -> io::Result<()> {
     show(
+        rt,
         b"or,31,ev,1,0,ev,1,0,ev,1,0,ev,1,0,ev,1,0,ev,1,0,ev,1,0,ev,1,0,ev,1,0,ev,1,0,ev,1,0,ev,1,0,ev,1,0,ev,1,0,ev,1,0,ev,1,0,ev,1,0,ev,1,0,ev,1,0,ev,1,0,ev,1,0,ev,1,0,ev,1,0,ev,1,0,ev,1,0,ev,1,0,ev,1,0,ev,1,0,ev,1,0,ev,1,0,ev,1,0",
         b"1,1,1,0,0\n",
-    );
+    )?;
     show(
+        rt,
         b"or,31,ev,1,0,ev,1,0,ev,1,0,ev,1,0,ev,1,0,ev,1,0,ev,1,0,ev,1,0,ev,1,0,ev,1,0,ev,1,0,ev,1,0,ev,1,0,ev,1,0,ev,1,0,ev,1,0,ev,1,0,ev,1,0,ev,1,0,ev,1,0,ev,1,0,ev,1,0,ev,1,0,ev,1,0,ev,1,0,ev,1,0,ev,1,0,ev,1,0,ev,1,0,ev,1,0,max,9,ev,1,0",
         b"1,1,1,0,0\n",
-    );
+    )
 }
 
 // 61,440 bytes of log are accepted, one more is not.
-fn lengths() {
+fn lengths(rt: &impl Print) -> io::Result<()> {
     let log = [10u8; 61441];
-    show(b"ev,1,0", &log[..61440]);
-    show(b"ev,1,0", &log);
+    show(rt, b"ev,1,0", &log[..61440])?;
+    show(rt, b"ev,1,0", &log)
 }
 
 // The printed sheet's example.
-fn printed() {
+fn printed(rt: &impl Print) -> io::Result<()> {
     show(
+        rt,
         b"then,2,ev,7,0,ev,9,0",
         b"1,4,7,3,6\n2,4,12,20,3,0\noops\n1,4,9,0,0\n1,5,9,0,0\n",
-    );
+    )
 }
 
 // Figure 1, "(hot OR cold) AND porridge AND pease": a word a line, hot, porridge, pease and cold as codes 1 to 4; then over lists.
-fn figure() {
+fn figure(rt: &impl Print) -> io::Result<()> {
     show(
+        rt,
         b"and,3,or,2,ev,1,0,ev,4,0,ev,2,0,ev,3,0",
         b"1,1,3,0,0\n1,1,2,0,0\n1,1,1,0,0\n1,1,3,0,0\n1,1,2,0,0\n1,1,4,0,0\n1,1,3,0,0\n1,1,2,0,0\n\n\n\n\n\n\n\n\n\n1,1,1,0,0\n\n\n\n1,1,4,0,0\n\n\n\n\n\n\n\n\n\n1,1,3,0,0\n1,1,2,0,0\n1,1,1,0,0\n1,1,3,0,0\n1,1,2,0,0\n1,1,4,0,0\n",
-    );
+    )?;
     let items = [
         2u32, 2, 5, 5, 17, 17, 21, 21, 33, 33, 36, 36, 1, 1, 4, 4, 7, 7, 32, 32, 35, 35, 0, 0, 3,
         3, 6, 6, 31, 31, 34, 34,
     ];
     let ends = [12u32, 22, 32];
-    show_lists(2, &items, &ends);
+    show_lists(rt, 2, &items, &ends)
 }
 
-fn main() {
-    cases();
-    nodes();
-    lengths();
-    printed();
-    figure();
+fn main(rt: HostRuntime) -> io::Result<()> {
+    cases(&rt)?;
+    nodes(&rt)?;
+    lengths(&rt)?;
+    printed(&rt)?;
+    figure(&rt)
 }

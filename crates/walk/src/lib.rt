@@ -10,7 +10,7 @@ use nodes::TABLE;
 use seek::{NONE, STATE};
 
 // How many stretches were written, and whether a further answer exists.
-#[derive(Drop)]
+#[derive(Clone, Copy)]
 pub struct Walked {
     pub count: usize,
     pub more: bool,

@@ -9,27 +9,24 @@ ghost use Rattle.event_log.specs.Reading.{read_at};
 use basics::wide;
 use event_log::Reading;
 use finder::Answer;
-use libc::{STDIN_FILENO, STDOUT_FILENO};
+use input::read_whole;
 use reading_mark::{Mark, line_after, read_from};
 use records::Record;
-
-fn put(text: &[u8]) {
-    io::write_all(STDOUT_FILENO, text);
-}
+use std::io;
 
 // What came one by one, and whether it is what was filled.
-#[derive(Drop)]
+#[derive(Clone, Copy)]
 struct Walked {
     count: usize,
     agrees: bool,
 }
 
-fn verdict(w: Walked) {
-    io::print_decimal(STDOUT_FILENO, w.count as u64);
+fn verdict(rt: &impl Print, w: Walked) -> io::Result<()> {
+    rt.print(w.count)?;
     if w.agrees {
-        put(b" as filled\n");
+        rt.write_all(b" as filled\n")
     } else {
-        put(b" NOT AS FILLED\n");
+        rt.write_all(b" NOT AS FILLED\n")
     }
 }
 
@@ -86,12 +83,12 @@ fn step_through(pattern: &[u8], log: &[u8], cells: &[u32], n: usize) -> Walked {
     }
 }
 
-fn steps(pattern: &[u8], log: &[u8]) {
+fn steps(rt: &impl Print, pattern: &[u8], log: &[u8]) -> io::Result<()> {
     let mut cells = [0u32; 1024];
     let r = finder::fill(pattern, log, &mut cells, 0);
-    put(pattern);
-    put(b": ");
-    verdict(step_through(pattern, log, &cells, r.count));
+    rt.write_all(pattern)?;
+    rt.write_all(b": ")?;
+    verdict(rt, step_through(pattern, log, &cells, r.count))
 }
 
 // ── Line by line ──
@@ -118,7 +115,7 @@ fn line(log: &[u8], way: usize, p: usize, at: usize, before: usize) -> Reading {
 }
 
 // A leaf asks for a code or a frame on a lane, 0 being any lane.
-#[derive(Drop)]
+#[derive(Clone, Copy)]
 struct Leaf {
     by_frame: bool,
     value: u16,
@@ -138,7 +135,7 @@ fn matches(leaf: Leaf, r: Record) -> bool {
 }
 
 // Whether there is a line, whether the leaf matches it, and the place after it.
-#[derive(Drop)]
+#[derive(Clone, Copy)]
 struct Seen {
     line: bool,
     hit: bool,
@@ -207,34 +204,38 @@ fn read_through(log: &[u8], way: usize, leaf: Leaf, cells: &[u32], n: usize) -> 
     }
 }
 
-fn by(pattern: &[u8], how: &[u8], w: Walked) {
-    put(pattern);
-    put(how);
-    verdict(w);
+fn by(rt: &impl Print, pattern: &[u8], how: &[u8], w: Walked) -> io::Result<()> {
+    rt.write_all(pattern)?;
+    rt.write_all(how)?;
+    verdict(rt, w)
 }
 
-fn lines_of(pattern: &[u8], leaf: Leaf, log: &[u8]) {
+fn lines_of(rt: &impl Print, pattern: &[u8], leaf: Leaf, log: &[u8]) -> io::Result<()> {
     let mut cells = [0u32; 1024];
     let r = finder::fill(pattern, log, &mut cells, 0);
     by(
+        rt,
         pattern,
         b" by number: ",
         read_through(log, 0, leaf, &cells, r.count),
-    );
+    )?;
     by(
+        rt,
         pattern,
         b" by place: ",
         read_through(log, 1, leaf, &cells, r.count),
-    );
+    )?;
     by(
+        rt,
         pattern,
         b" by mark: ",
         read_through(log, 2, leaf, &cells, r.count),
-    );
+    )
 }
 
-fn ev(pattern: &[u8], code: u16, lane: u16, log: &[u8]) {
+fn ev(rt: &impl Print, pattern: &[u8], code: u16, lane: u16, log: &[u8]) -> io::Result<()> {
     lines_of(
+        rt,
         pattern,
         Leaf {
             by_frame: false,
@@ -242,11 +243,12 @@ fn ev(pattern: &[u8], code: u16, lane: u16, log: &[u8]) {
             lane,
         },
         log,
-    );
+    )
 }
 
-fn fr(pattern: &[u8], frame: u16, lane: u16, log: &[u8]) {
+fn fr(rt: &impl Print, pattern: &[u8], frame: u16, lane: u16, log: &[u8]) -> io::Result<()> {
     lines_of(
+        rt,
         pattern,
         Leaf {
             by_frame: true,
@@ -254,39 +256,40 @@ fn fr(pattern: &[u8], frame: u16, lane: u16, log: &[u8]) {
             lane,
         },
         log,
-    );
+    )
 }
 
 // ── All of it ──
 
-fn patterns(log: &[u8]) {
-    steps(b"ev,2,0", log);
-    steps(b"or,2,ev,7,0,ev,12,0", log);
-    steps(b"then,2,ev,7,5,ev,9,5", log);
-    steps(b"max,20,then,2,ev,7,0,ev,9,0", log);
-    steps(b"less,then,2,ev,1,0,ev,7,0,ev,3,0", log);
-    steps(b"and,2,ev,7,5,ev,7,8", log);
-    steps(b"row,2,ev,3,0,ev,2,0", log);
-    steps(b"max,1,and,2,ev,2,0,fr,3,0", log);
+fn patterns(rt: &impl Print, log: &[u8]) -> io::Result<()> {
+    steps(rt, b"ev,2,0", log)?;
+    steps(rt, b"or,2,ev,7,0,ev,12,0", log)?;
+    steps(rt, b"then,2,ev,7,5,ev,9,5", log)?;
+    steps(rt, b"max,20,then,2,ev,7,0,ev,9,0", log)?;
+    steps(rt, b"less,then,2,ev,1,0,ev,7,0,ev,3,0", log)?;
+    steps(rt, b"and,2,ev,7,5,ev,7,8", log)?;
+    steps(rt, b"row,2,ev,3,0,ev,2,0", log)?;
+    steps(rt, b"max,1,and,2,ev,2,0,fr,3,0", log)?;
     steps(
+        rt,
         b"less,max,90,and,2,then,2,or,2,ev,7,0,ev,12,0,ev,9,0,row,2,ev,2,0,ev,2,0,ev,15,0",
         log,
-    );
-    steps(b"ev,256,0", log);
+    )?;
+    steps(rt, b"ev,256,0", log)
 }
 
-fn leaves(log: &[u8]) {
-    ev(b"ev,2,0", 2, 0, log);
-    ev(b"ev,7,5", 7, 5, log);
-    fr(b"fr,3,0", 3, 0, log);
-    fr(b"fr,0,4", 0, 4, log);
-    ev(b"ev,254,0", 254, 0, log);
+fn leaves(rt: &impl Print, log: &[u8]) -> io::Result<()> {
+    ev(rt, b"ev,2,0", 2, 0, log)?;
+    ev(rt, b"ev,7,5", 7, 5, log)?;
+    fr(rt, b"fr,3,0", 3, 0, log)?;
+    fr(rt, b"fr,0,4", 0, 4, log)?;
+    ev(rt, b"ev,254,0", 254, 0, log)
 }
 
-fn main() {
-    let mut input = io::large_buffer();
-    let n = io::read_full(STDIN_FILENO, &mut input);
+fn main(rt: HostRuntime) -> io::Result<()> {
+    let mut input = [0u8; 65536];
+    let n = read_whole(&mut rt.stdin(), &mut input)?;
     let log = &input[..n];
-    patterns(log);
-    leaves(log);
+    patterns(&rt, log)?;
+    leaves(&rt, log)
 }
