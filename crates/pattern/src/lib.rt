@@ -27,7 +27,7 @@ const PATTERN_MAX: usize = 1024;
 const DEPTH_MAX: usize = 8;
 
 // Accepted, or refused: too long, misspelt with the place, crowded, deep.
-#[derive(Drop)]
+#[derive(Clone, Copy)]
 pub enum Verdict {
     Accepted,
     Long,
