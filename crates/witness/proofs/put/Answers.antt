@@ -1,5 +1,4 @@
 -- `witness::put` meets its contract. Assumes nothing.
-use lib.ListN.{length-set}
 use native.Mathlib.Omega.{arith}
 use Rattle.stretches.specs.Stretch.{st}
 use Rattle.witness.proofs.Triples.{grown-full, grown-one}
@@ -7,12 +6,6 @@ use Rattle.witness.proofs.put.Goals as goal
 
 pub returns-then-cells-n : goal.returns-then-cells-n
 returns-then-cells-n c = grown-full _ c.args.n c.args.cells.now c.if-cells-n.true
-
-pub bounds-cells-n-2 : goal.bounds-cells-n-2
-bounds-cells-n-2 c = simp length-set (omega arith)
-
-pub bounds-cells-n-3 : goal.bounds-cells-n-3
-bounds-cells-n-3 c = simp (length-set, length-set) (omega arith)
 
 pub returns : goal.returns
 returns c = grown-one c.args.v (st c.args.s c.args.e) c.args.n c.args.cells.now (omega (arith, c.if-cells-n.false))
