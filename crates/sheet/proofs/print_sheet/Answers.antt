@@ -1,0 +1,12 @@
+-- `sheet::print_sheet` meets its contract: the cells are enough for every answer.
+-- Assumes nothing.
+use Rattle.sheet.proofs.Sheets.{fill-laid}
+use lib.ListN.{replicate}
+use borrow.Author.Rules.{rules}
+use Rattle.sheet.proofs.print_sheet.Goals as goal
+
+pub returns : goal.returns
+returns c = let a = c.args in
+    let f = c.fill-f in
+    let w = c.write_sheet in
+    fill-laid a.pattern.now a.log.now (replicate 122880 0) _ a.out.now _ f.result w.result f.ensures (search rules) w.ensures
