@@ -13,12 +13,12 @@ use Rattle.find.specs.declared.Input.TheVariants as whole
 abbrev pub Turned : Intake → List ℕ → List ℕ → Turn → List ℕ → List ℕ → Type 0
 Turned t p l (turn.More r) p' l' = (piece : List ℕ) × TakenIn piece t p l r p' l'
 Turned t p l turn.End p' l' = (p' ≡ p) × (l' ≡ l)
-Turned t p l turn.Failed p' l' = (p' ≡ p) × (l' ≡ l)
+Turned t p l (turn.Failed e) p' l' = (p' ≡ p) × (l' ≡ l)
 
--- there is an input whose pattern and log are kept, as far as the buffers go
+-- there is an input whose pattern and log are kept, as far as the buffers go: all of what came, or where a read failed what came before it
 abbrev pub Gathered : Input → List ℕ → List ℕ → Type 0
 Gathered (whole.Read t) p l = (input : List ℕ) × Keeps input t p l
-Gathered whole.Failed p l = Unit {0}
+Gathered (whole.Failed e) p l = (input : List ℕ) × (t : Intake) × Keeps input t p l
 
 -- an input is kept in buffers that hold one byte more of pattern and log than are accepted
 pub record Held (t : Intake) (p l : List ℕ) : Type 0 where

@@ -72,12 +72,10 @@ fn sheet_buffer() -> [u8; 800000]
 // The words of an error, of which those of a system's error end before its number.
 fn words(said: &[u8]) -> &[u8] {
     let number = b" (os error ";
-    let mut n = 0;
-    while n < said.len() {
+    for n in 0..said.len() {
         if said[n..].starts_with(number) {
             return &said[..n];
         }
-        n += 1;
     }
     said
 }
@@ -87,7 +85,7 @@ fn fail(rt: &HostRuntime, what: &[u8], error: io::Error) -> io::Result<()> {
     let mut said = [0u8; 128];
     let mut room = &mut said[..];
     write!(room, "{error}")?;
-    let used = 128 - room.len();
+    let used = 128usize.saturating_sub(room.len());
     let to = rt.stderr();
     Print::write_all(&to, what)?;
     Print::write_all(&to, b": ")?;
