@@ -1,15 +1,15 @@
 -- Picks written one after another, and the call's returns. Assumes nothing.
 use Prim.Native.Nat.{ℕ, zero, suc, ◌+◌, ◌*◌, ◌≤◌, ◌<◌, min}
-use mathlib.Core.Path.{◌≡◌, refl, sym, ap, subst, ◌∙◌}
+use mathlib.Core.Path.{◌≡◌, refl, sym, ap, ap₂, subst, ◌∙◌}
 use mathlib.Core.Logic.{◌⊎◌, inl, inr}
-use mathlib.Core.Bool.{Bool, true, false, cond}
+use mathlib.Core.Bool.{Bool, true, false, not, cond, ◌&&◌}
 use mathlib.Core.List.{List, [], ◌∷◌, ◌++◌}
 use lib.ListN.{length, set, take, drop, length-take, length-drop}
 use lib.Seq.{take_at}
-use lib.Dec.{eqb}
-use borrow.Author.Tests.{eqb-true, eqb-false, eq-eqb}
+use lib.Dec.{leb, eqb}
+use borrow.Author.Tests.{le-leb, lt-leb, eqb-true, eqb-false, eq-eqb}
 use native.Mathlib.Omega.{arith}
-use Rattle.basics.proofs.Basics.{le-or-lt}
+use Rattle.basics.proofs.Basics.{cases, true-and, le-or-lt}
 use Rattle.stretches.specs.Stretch.{Stretch, st, In}
 use Rattle.stretches.specs.Front as fronts
 use Rattle.stretches.specs.Front.{None, At, head_of, nth}
@@ -115,6 +115,17 @@ module _ (src : Source) (rows : List ℕ) (good : Good src rows) (k : ℕ) (cell
                 partly_more all n cells₀ cells p (st r.start r.end) d (i ∙ ap (λ (f : Front). st f.start f.end ∷ d) (sym z)) fits
 
 -- ── The call ──
+
+-- its refusal's number
+pub refusal-low : (number k : ℕ) → number ≡ 0 → k < 1 → 10 ≡ refusal_number number k
+refusal-low number k z h = sym (ap₂ (λ a b. cond a (cond (not (b && leb k 16)) 10 0) number) (eq-eqb number 0 z) (lt-leb 1 k h))
+
+pub refusal-high : (number k : ℕ) → number ≡ 0 → 16 < k → 10 ≡ refusal_number number k
+refusal-high number k z h =
+    sym (ap₂ (λ a b. cond a (cond (not (leb 1 k && b)) 10 0) number) (eq-eqb number 0 z) (lt-leb k 16 h) ∙ cases (leb 1 k) (λ b. ◌≡◌ {A = ℕ} (cond (not (b && false)) 10 0) 10) (λ e. refl) (λ e. refl))
+
+pub refusal-none : (number k : ℕ) → number ≡ 0 → 1 ≤ k → k ≤ 16 → 0 ≡ refusal_number number k
+refusal-none number k z h i = sym (ap₂ (λ a b. cond a (cond (not b) 10 0) number) (eq-eqb number 0 z) (true-and (leb 1 k) (leb k 16) (le-leb 1 k h) (le-leb k 16 i)))
 
 -- over another list that is the same
 pub wrote_as : (k : ℕ) (cells : List ℕ) {l l' : List Stretch} {n : ℕ} {cells' : List ℕ} → l ≡ l' → Wrote k l cells n cells' → Wrote k l' cells n cells'

@@ -3,10 +3,12 @@
 use Prim.Native.Nat.{ℕ, zero, suc, ◌+◌, ◌-◌, ◌*◌, ◌≤◌, ◌<◌}
 use mathlib.Core.Path.{◌≡◌, sym, ap, ap₂, ◌∙◌}
 use mathlib.Core.Logic.{◌⊎◌, inl, inr}
-use mathlib.Core.Bool.{false}
+use mathlib.Core.Bool.{Bool, true, false, ◌&&◌, ◌||◌}
 use mathlib.Core.List.{List, []}
 use native.Mathlib.Omega.{arith}
 use lib.ListN.{length, get_or}
+use lib.Dec.{ltb, eqb}
+use borrow.Author.Tests.{lt-ltb, le-ltb, eq-eqb, ne_eqb}
 use Rattle.stretches.specs.Stretch.{Stretch, st}
 use Rattle.stretches.specs.Front.{None, At, nth}
 use Rattle.stretches.specs.Lent.{part, lists_of}
@@ -54,3 +56,15 @@ module _ (items ends counts : List ℕ) (cut : miscut items ends ≡ false) (i l
 
   pub item-inside : lo + 2 * m + 2 ≤ hi → lo + 2 * m + 1 < length items
   item-inside h = omega (arith, inside)
+
+-- ── The order of two items ──
+
+module _ (a b : ℕ) (r : Bool) where
+  pub first-less : a < b → ltb a b || (eqb a b && r) ≡ true
+  first-less h = ap (λ p. p || (eqb a b && r)) (lt-ltb a b h)
+
+  pub first_more : b < a → ltb a b || (eqb a b && r) ≡ false
+  first_more h = ap₂ (λ p q. p || (q && r)) (le-ltb a b (omega arith)) (ne_eqb a b (λ e. omega arith))
+
+  pub first_alike : b ≤ a → a ≤ b → ltb a b || (eqb a b && r) ≡ r
+  first_alike h g = ap₂ (λ p q. p || (q && r)) (le-ltb a b h) (eq-eqb a b (omega arith))

@@ -2,13 +2,13 @@
 -- The code's bound on the turns is the definition's, half the number of items and one. Assumes nothing.
 use Prim.Native.Nat.{ℕ, zero, suc, ◌+◌, ◌-◌, ◌*◌, ◌/◌, ◌%◌, ◌<◌}
 use mathlib.Core.Path.{◌≡◌, refl, sym, ap, ap₂, ◌∙◌}
-use mathlib.Core.Bool.{Bool, true, false, cond}
+use mathlib.Core.Bool.{Bool, true, false, cond, ◌&&◌}
 use mathlib.Core.List.{List, [], ◌∷◌}
 use native.Mathlib.Omega.{arith}
 use lib.ListN.{length, take, drop, length-drop}
 use lib.Seq.{length-take-le}
 use lib.Dec.{eqb}
-use borrow.Author.Tests.{eqb-true, not-false}
+use borrow.Author.Tests.{eq-eqb, ne_eqb, eqb-true, not-false}
 use Rattle.stretches.specs.Stretch.{Stretch, st}
 use Rattle.stretches.specs.Front.{Front, None, At}
 use Rattle.stretches.specs.Taking.{AnswerCounts, Order, fronts, top, span, contains, advance, starts_first, total, skip, is_top, again, shrink}
@@ -167,3 +167,11 @@ module _ (items ends : List ℕ) (c₀ : Stretch) where
                 ∙ ap (λ v. cond v (shrink (left - 1) (lists_of items ends) (st x.start x.end) (take (length ends) counts')) (hand (st c.start c.end) (take (length ends) counts')))
                 (ap₂ contains (sym (front_at c s.found)) (sym (front_at x f)) ∙ e)));
           }
+
+-- line 8, as the code tests it
+module _ (x c : Item) (f : x.found ≡ true) where
+  pub top_apart : (c.start ≡ x.start → ⊥) → is_top (front_of x) (st c.start c.end) ≡ false
+  top_apart h = ap (λ g. is_top g (st c.start c.end)) (front_at x f) ∙ ap (λ v. v && eqb c.end x.end) (ne_eqb c.start x.start h)
+
+  pub top-alike : c.start ≡ x.start → is_top (front_of x) (st c.start c.end) ≡ eqb c.end x.end
+  top-alike h = ap (λ g. is_top g (st c.start c.end)) (front_at x f) ∙ ap (λ v. v && eqb c.end x.end) (eq-eqb c.start x.start h)
