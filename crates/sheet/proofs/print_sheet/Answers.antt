@@ -9,4 +9,4 @@ pub returns : goal.returns
 returns c = let a = c.args in
     let f = c.fill-f in
     let w = c.write_sheet in
-    fill-laid a.pattern.now a.log.now (replicate 122880 0) _ a.out.now _ f.result w.result f.ensures (search rules) w.ensures
+    fill-laid a.pattern.now a.log.now (replicate 122880 0) _ a.out.now _ f.result w.result (f.ensures.value, f.ensures.cells_after) (search rules) w.ensures

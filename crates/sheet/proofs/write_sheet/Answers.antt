@@ -11,10 +11,10 @@ use Rattle.sheet.proofs.write_sheet.Goals as goal
 pub returns-then-f-ne0 : goal.returns-then-f-ne0
 returns-then-f-ne0 c = let a = c.args in
     let w = c.write_refused in
-    subst (λ (s : List ℕ). Writes s a.out.now w.result w.new.1.1.0) (sheet-refused a.f a.log.now a.cells.now c.if-f-ne0.true) w.ensures
+    subst (λ (s : List ℕ). Writes s a.out.now w.result w.new.out) (sheet-refused a.f a.log.now a.cells.now c.if-f-ne0.true) w.ensures
 
 pub returns : goal.returns
 returns c = let a = c.args in
     let n = c.count-c in
     let w = c.write_found in
-    subst (λ (s : List ℕ). Writes s a.out.now w.result w.new.1.1.1.1.0) (sheet-found a.f a.log.now a.cells.now n.result c.if-f-ne0.false n.ensures) w.ensures
+    subst (λ (s : List ℕ). Writes s a.out.now w.result w.new.out) (sheet-found a.f a.log.now a.cells.now n.result c.if-f-ne0.false n.ensures) w.ensures
