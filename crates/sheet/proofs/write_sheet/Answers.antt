@@ -5,7 +5,6 @@ use mathlib.Core.List.{List}
 use Prim.Native.Nat.{ℕ}
 use Rattle.print.specs.Print.{Writes}
 use Rattle.sheet.proofs.Sheets.{sheet-refused, sheet-found}
-use borrow.Author.Rules.{rules}
 use Rattle.sheet.proofs.write_sheet.Goals as goal
 
 pub returns-then-f-ne0 : goal.returns-then-f-ne0
