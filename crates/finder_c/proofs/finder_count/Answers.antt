@@ -2,7 +2,6 @@
 use Prim.Native.Nat.{◌≤◌}
 use native.Mathlib.Omega.{arith}
 use Rattle.finder_c.proofs.Logs.{count_small, count_long, count-packed}
-use borrow.Author.Rules.{rules}
 use Rattle.finder_c.proofs.finder_count.Goals as goal
 use Rattle.finder_c.proofs.finder_count.Goals.{After-count-c}
 

@@ -2,11 +2,10 @@
 use mathlib.Core.Path.{ap, ◌∙◌}
 use Rattle.finder_c.specs.Packing.{packed_fill}
 use Rattle.finder_c.proofs.Small.{filling-small}
-use borrow.Author.Rules.{rules}
 use Rattle.finder_c.proofs.finder_fill.Goals as goal
 
 pub packed-requires : goal.packed-requires
-packed-requires c = filling-small c.args.pattern.now c.args.log.now c.args.from c.args.cells.now c.fill-r.result c.fill-r.ensures.0
+packed-requires c = filling-small c.args.pattern.now c.args.log.now c.args.from c.args.cells.now c.fill-r.result c.fill-r.ensures.value
 
-pub returns : goal.returns
-returns c = (c.packed.ensures ∙ ap packed_fill c.fill-r.ensures.0, c.fill-r.ensures.1)
+pub returns-clause-value : goal.returns-clause-value
+returns-clause-value c = c.packed.ensures ∙ ap packed_fill c.fill-r.ensures.value

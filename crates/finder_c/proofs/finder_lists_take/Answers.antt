@@ -2,11 +2,10 @@
 use mathlib.Core.Path.{ap, ◌∙◌}
 use Rattle.finder_c.specs.Packing.{packed_taken}
 use Rattle.finder_c.proofs.Small.{taking-small}
-use borrow.Author.Rules.{rules}
 use Rattle.finder_c.proofs.finder_lists_take.Goals as goal
 
 pub packed_taken-requires : goal.packed_taken-requires
-packed_taken-requires c = taking-small c.args.op c.args.items.now c.args.ends.now c.args.counts.now c.args.number c.take-r.result c.take-r.ensures.0
+packed_taken-requires c = taking-small c.args.op c.args.items.now c.args.ends.now c.args.counts.now c.args.number c.take-r.result c.take-r.ensures.value
 
-pub returns : goal.returns
-returns c = (c.packed_taken.ensures ∙ ap packed_taken c.take-r.ensures.0, c.take-r.ensures.1)
+pub returns-clause-value : goal.returns-clause-value
+returns-clause-value c = c.packed_taken.ensures ∙ ap packed_taken c.take-r.ensures.value

@@ -2,11 +2,10 @@
 use mathlib.Core.Path.{ap, ◌∙◌}
 use Rattle.finder_c.specs.Packing.{packed_reply}
 use Rattle.finder_c.proofs.Small.{picking-small}
-use borrow.Author.Rules.{rules}
 use Rattle.finder_c.proofs.finder_pick.Goals as goal
 
 pub packed_reply-requires : goal.packed_reply-requires
-packed_reply-requires c = picking-small c.args.pattern.now c.args.log.now c.args.k c.args.cells.now c.pick-r.result c.pick-r.ensures.0
+packed_reply-requires c = picking-small c.args.pattern.now c.args.log.now c.args.k c.args.cells.now c.pick-r.result c.pick-r.ensures.value
 
-pub returns : goal.returns
-returns c = (c.packed_reply.ensures ∙ ap packed_reply c.pick-r.ensures.0, c.pick-r.ensures.1)
+pub returns-clause-value : goal.returns-clause-value
+returns-clause-value c = c.packed_reply.ensures ∙ ap packed_reply c.pick-r.ensures.value

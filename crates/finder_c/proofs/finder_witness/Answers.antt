@@ -2,12 +2,11 @@
 use mathlib.Core.Path.{ap, ◌∙◌}
 use Rattle.finder_c.specs.Packing.{packed_reply}
 use Rattle.finder_c.proofs.Small.{witness_small}
-use borrow.Author.Rules.{rules}
 use Rattle.finder_c.proofs.finder_witness.Goals as goal
 
 pub packed_reply-requires : goal.packed_reply-requires
 packed_reply-requires c = let a = c.args in
-    witness_small a.pattern.now a.log.now a.number a.cells.now c.show-r.result c.show-r.ensures.0
+    witness_small a.pattern.now a.log.now a.number a.cells.now c.show-r.result c.show-r.ensures.value
 
-pub returns : goal.returns
-returns c = (c.packed_reply.ensures ∙ ap packed_reply c.show-r.ensures.0, c.show-r.ensures.1)
+pub returns-clause-value : goal.returns-clause-value
+returns-clause-value c = c.packed_reply.ensures ∙ ap packed_reply c.show-r.ensures.value
