@@ -1,8 +1,5 @@
 -- `finder_steps::finder_steps` meets its contract. The loop's invariant: the finder is that after n steps, and the cells hold the first n answers. Assumes nothing.
-use lib.ListN.{length-set}
-use Rattle.finder_steps.proofs.Taking.{Takes, takes-start, takes-full, takes_none, takes-more}
-use borrow.Author.Rules.{rules}
-use native.Mathlib.Omega.{arith}
+use Rattle.finder_steps.proofs.Taking.{Takes}
 use Rattle.finder_steps.proofs.finder_steps.Given as goal
 
 abbrev pub invariant-loop-room : goal.invariant-loop-room
