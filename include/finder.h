@@ -43,7 +43,7 @@ enum {
 };
 
 /* The stack that is enough for a call, in bytes: FINDER_STACK_FILL for finder_fill, finder_pick and finder_witness, FINDER_STACK_OTHERS for
-   every other. Measured, these three take some 275,000, whatever the log, finder_count 7,600, finder_lists_fill 3,000, finder_lines and
+   every other. Measured, these three take some 278,000, whatever the log, finder_count 9,100, finder_lists_fill 4,000, finder_lines and
    finder_lists_take less than 600; in a program's first call the dynamic linker takes up to 3,300 more. */
 enum { FINDER_STACK_FILL = 320 * 1024, FINDER_STACK_OTHERS = 16 * 1024 };
 
