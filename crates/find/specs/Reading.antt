@@ -15,10 +15,10 @@ Turned t p l (turn.More r) p' l' = (piece : List ℕ) × TakenIn piece t p l r p
 Turned t p l turn.End p' l' = (p' ≡ p) × (l' ≡ l)
 Turned t p l (turn.Failed e) p' l' = (p' ≡ p) × (l' ≡ l)
 
--- there is an input whose pattern and log are kept, as far as the buffers go: all of what came, or where a read failed what came before it
+-- there is an input whose pattern and log are kept, as far as the buffers go
 abbrev pub Gathered : Input → List ℕ → List ℕ → Type 0
 Gathered (whole.Read t) p l = (input : List ℕ) × Keeps input t p l
-Gathered (whole.Failed e) p l = (input : List ℕ) × (t : Intake) × Keeps input t p l
+Gathered (whole.Failed e) p l = Unit {0}
 
 -- an input is kept in buffers that hold one byte more of pattern and log than are accepted
 pub record Held (t : Intake) (p l : List ℕ) : Type 0 where

@@ -14,6 +14,10 @@ use reading_mark::{Mark, line_after, read_from};
 use records::Record;
 use std::io;
 
+fn put(rt: &impl Print, text: &[u8]) -> io::Result<()> {
+    rt.write_all(text)
+}
+
 // What came one by one, and whether it is what was filled.
 #[derive(Clone, Copy)]
 struct Walked {
@@ -24,9 +28,9 @@ struct Walked {
 fn verdict(rt: &impl Print, w: Walked) -> io::Result<()> {
     rt.print(w.count)?;
     if w.agrees {
-        rt.write_all(b" as filled\n")
+        put(rt, b" as filled\n")
     } else {
-        rt.write_all(b" NOT AS FILLED\n")
+        put(rt, b" NOT AS FILLED\n")
     }
 }
 
@@ -86,8 +90,8 @@ fn step_through(pattern: &[u8], log: &[u8], cells: &[u32], n: usize) -> Walked {
 fn steps(rt: &impl Print, pattern: &[u8], log: &[u8]) -> io::Result<()> {
     let mut cells = [0u32; 1024];
     let r = finder::fill(pattern, log, &mut cells, 0);
-    rt.write_all(pattern)?;
-    rt.write_all(b": ")?;
+    put(rt, pattern)?;
+    put(rt, b": ")?;
     verdict(rt, step_through(pattern, log, &cells, r.count))
 }
 
@@ -205,8 +209,8 @@ fn read_through(log: &[u8], way: usize, leaf: Leaf, cells: &[u32], n: usize) -> 
 }
 
 fn by(rt: &impl Print, pattern: &[u8], how: &[u8], w: Walked) -> io::Result<()> {
-    rt.write_all(pattern)?;
-    rt.write_all(how)?;
+    put(rt, pattern)?;
+    put(rt, how)?;
     verdict(rt, w)
 }
 
