@@ -84,7 +84,7 @@ fn words(said: &[u8]) -> &[u8] {
 fn fail(rt: &HostRuntime, what: &[u8], error: io::Error) -> io::Result<()> {
     let mut said = [0u8; 128];
     let mut room = &mut said[..];
-    write!(room, "{error}")?;
+    let _ = write!(room, "{error}");
     let used = 128usize.saturating_sub(room.len());
     let to = rt.stderr();
     Print::write_all(&to, what)?;

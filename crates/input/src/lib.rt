@@ -1,9 +1,9 @@
 // An input read whole; and one taken in piece by piece: the pattern up to the first line feed, then the log.
 #![tactic(auto)]
 
-ghost use Rattle.std.specs.Prelude.{◌≡◌, min, length, take, IfOk};
+ghost use Rattle.std.specs.Prelude.{◌≡◌, ℕ, ◌<◌, min, length, take, IfOk, IfErr};
 ghost use Rattle.std.specs.Io.{ReadsAtMost};
-ghost use Rattle.std.specs.Io.KnownBytes.{Consumes};
+ghost use Rattle.std.specs.Io.KnownBytes.{Consumes, IsAtEnd};
 ghost use Rattle.input.specs.Input.{pattern_of, Kept, TakenIn};
 ghost use Rattle.input.specs.inner.Parting.{Parts};
 
@@ -100,16 +100,19 @@ pub fn take_piece(piece: &[u8], t: Intake, pattern: &mut [u8], log: &mut [u8]) -
     }
 }
 
-// Reads until the buffer is full or the input ends, and gives the number of bytes read: they stand first in the buffer.
+// Reads until the buffer is full or the input ends, and gives the number of bytes read: they stand first in the buffer. Where a read fails, those that came
+// before it stand there.
 pub fn read_whole<R: Read>(from: &mut R, buffer: &mut [u8]) -> io::Result<usize>
     ensures in_bounds { ReadsAtMost result buffer.new }
     ensures bytes { IfOk result (λ n. Consumes (R.remaining from.old) (R.remaining from.new) (take n buffer.new)) }
+    ensures end { IfOk result (λ n. n < length buffer.new → IsAtEnd (R.remaining from.new)) }
+    ensures none_lost { IfErr result (λ e. (n : ℕ) × Consumes (R.remaining from.old) (R.remaining from.new) (take n buffer.new)) }
 {
     let mut used = 0;
     while used < buffer.len() {
         let n = from.read(&mut buffer[used..])?;
         if n == 0 {
-            break;
+            return Ok(used);
         }
         used += n;
     }
