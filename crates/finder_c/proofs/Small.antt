@@ -10,7 +10,7 @@ use lib.Dec.{eqb}
 use borrow.Author.Tests.{eqb-true}
 use native.Mathlib.Omega.{arith}
 use Rattle.stretches.specs.Stretch.{Stretch, Op, Or, And, Row, Then, Keep, length_of, answers}
-use Rattle.stretches.specs.Front.{Front, None, At, nth}
+use Rattle.stretches.specs.Front.{Front, None, Some, nth}
 use Rattle.stretches.specs.Taking.{begun, taking}
 use Rattle.stretches.specs.Operators.{operator_of, apply}
 use Rattle.stretches.specs.Filling.{pairs_in, written}
@@ -102,19 +102,19 @@ idle ls f h t z s zero = ap (λ (x : algorithm.AnswerCounts). x.answer) (z ∙ h
 idle ls f h t z s (suc p) = ap (λ (x : algorithm.AnswerCounts). x.answer) (s p ∙ h (t p)) ∙ idle ls f h t z s p
 
 -- an answer that is taken ends below 65,536
-taken_in : (o : Op) (ls : List (List Stretch)) → AllFine 65536 ls → (p : ℕ) (x : Stretch) → (taking o ls p).answer ≡ At x → (x.start ≤ 65535) × (x.end ≤ 65535)
+taken_in : (o : Op) (ls : List (List Stretch)) → AllFine 65536 ls → (p : ℕ) (x : Stretch) → (taking o ls p).answer ≡ Some x → (x.start ≤ 65535) × (x.end ≤ 65535)
 taken_in o ls f p x e = by o e
   where
-    fits : (o : Op) → nth (answers o ls) p ≡ At x → (x.start ≤ 65535) × (x.end ≤ 65535)
+    fits : (o : Op) → nth (answers o ls) p ≡ Some x → (x.start ≤ 65535) × (x.end ≤ 65535)
     fits o k =
         let g = fine-answers 65536 o ls f in
         let m = nth_in (answers o ls) p x k in
         (omega (arith, g.sound x.start x.end m, g.below x.start x.end m), omega (arith, g.below x.start x.end m))
 
-    never : None ≡ At x → (x.start ≤ 65535) × (x.end ≤ 65535)
+    never : None ≡ Some x → (x.start ≤ 65535) × (x.end ≤ 65535)
     never k = let z : ◌≡◌ {A = ℕ} 0 1 = cc in absurd (omega arith)
 
-    by : (o : Op) → (taking o ls p).answer ≡ At x → (x.start ≤ 65535) × (x.end ≤ 65535)
+    by : (o : Op) → (taking o ls p).answer ≡ Some x → (x.start ≤ 65535) × (x.end ≤ 65535)
     by Or k = fits Or (sym (ap (λ (t : algorithm.AnswerCounts). t.answer) (or-taken ls f.rising f.sound p)) ∙ k)
     by And k = fits And (sym (and-taken ls f.rising f.sound p) ∙ k)
     by Row k = never (sym (idle ls (λ s. s) (λ s. refl) (taking Row ls) refl (λ p. refl) p) ∙ k)
@@ -123,12 +123,12 @@ taken_in o ls f p x e = by o e
 
 taken-by : (o : Option Op) (ls : List (List Stretch)) → AllFine 65536 ls → (p : ℕ) (g : Front) → (taken_by o ls p).answer ≡ g → ((given g).start ≤ 65535) × ((given g).end ≤ 65535)
 taken-by o ls f p None e = (omega arith, omega arith)
-taken-by none ls f p (At x) e = let z : ◌≡◌ {A = ℕ} 0 1 = cc in absurd (omega arith)
-taken-by (some o) ls f p (At x) e = taken_in o ls f p x e
+taken-by none ls f p (Some x) e = let z : ◌≡◌ {A = ℕ} 0 1 = cc in absurd (omega arith)
+taken-by (some o) ls f p (Some x) e = taken_in o ls f p x e
 
 given-number : (g : Front) → (given g).number ≡ 0
 given-number None = refl
-given-number (At x) = refl
+given-number (Some x) = refl
 
 -- of a taking call
 pub taking-small : (op : ℕ) (items ends counts : List ℕ) (p : ℕ) (r : Taken) → r ≡ take_result op items ends counts p → (r.number ≤ 8) × (r.start ≤ 65535) × (r.end ≤ 65535)

@@ -12,7 +12,7 @@ use native.Mathlib.Omega.{arith}
 use Rattle.basics.proofs.Basics.{cases, true-and, le-or-lt}
 use Rattle.stretches.specs.Stretch.{Stretch, st, In}
 use Rattle.stretches.specs.Front as fronts
-use Rattle.stretches.specs.Front.{None, At, head_of, nth}
+use Rattle.stretches.specs.Front.{None, Some, head_of, nth}
 use Rattle.stretches.specs.Filling.{flat, pairs_in, written, filled}
 use Rattle.stretches.specs.Lent.{pairs}
 use Rattle.stretches.proofs.Lists.{in-keep}
@@ -38,14 +38,14 @@ use Rattle.picks.proofs.Passes.{answers-lie}
 -- the stretch of a front
 abbrev stretch-in : Stretch → fronts.Front → Stretch
 stretch-in d None = d
-stretch-in d (At x) = x
+stretch-in d (Some x) = x
 
 abbrev is_some : fronts.Front → ℕ
 is_some None = 0
-is_some (At x) = 1
+is_some (Some x) = 1
 
 -- the shortest of a list is one of it
-of-in : (q : List Stretch) (x : Stretch) → shortest_of q ≡ At x → In x.start x.end q
+of-in : (q : List Stretch) (x : Stretch) → shortest_of q ≡ Some x → In x.start x.end q
 of-in [] x e = let z : ◌≡◌ {A = ℕ} 0 1 = ap is_some e in absurd (omega arith)
 of-in (y ∷ q) x e = let z : shortest y q ≡ x = ap (stretch-in x) e in subst (λ (w : Stretch). In w.start w.end (y ∷ q)) z (shortest-in y q)
 
@@ -90,7 +90,7 @@ module _ (src : Source) (rows : List ℕ) (good : Good src rows) (k : ℕ) (cell
         shown : r ≡ front (nth all n)
         shown = e ∙ ap front (ap (λ (ps : List Stretch). shortest_of (remaining ps l)) held ∙ sym number)
 
-        low : (x : Stretch) → nth all n ≡ At x → x.start < 65536
+        low : (x : Stretch) → nth all n ≡ Some x → x.start < 65536
         low x i =
             let m = in-keep (clear (picks_of n l)) l x.start x.end (of-in (remaining (picks_of n l) l) x (sym number ∙ i)) in
             let z = lying x.start x.end m.0 in
@@ -111,7 +111,7 @@ module _ (src : Source) (rows : List ℕ) (good : Good src rows) (k : ℕ) (cell
             go : (d : List Stretch) → drop n all ≡ d → Partly all (n + 1) cells₀ (set (set cells (2 * n) r.start) (2 * n + 1) r.end)
             go [] i = let z : r.start ≡ 65536 = ap (λ (f : Front). f.start) (shown ∙ ap (λ (y : List Stretch). front (head_of y)) i) in absurd (omega arith)
             go (x ∷ d) i =
-                let z : r ≡ front (At x) = shown ∙ ap (λ (y : List Stretch). front (head_of y)) i in
+                let z : r ≡ front (Some x) = shown ∙ ap (λ (y : List Stretch). front (head_of y)) i in
                 partly_more all n cells₀ cells p (st r.start r.end) d (i ∙ ap (λ (f : Front). st f.start f.end ∷ d) (sym z)) fits
 
 -- ── The call ──

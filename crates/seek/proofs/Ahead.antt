@@ -4,7 +4,7 @@ use mathlib.Core.List.{List, [], ◌∷◌}
 use Prim.Native.Nat.{ℕ, suc, ◌+◌, ◌≤◌, ◌<◌}
 use native.Mathlib.Omega.{arith}
 use Rattle.stretches.specs.Stretch.{Stretch, st, Fine}
-use Rattle.stretches.specs.Front.{None, At, first_from, first_to, onward}
+use Rattle.stretches.specs.Front.{None, Some, first_from, first_to, onward}
 use Rattle.stretches.specs.Front as fronts
 use Rattle.stretches.proofs.Fronts.{front-good}
 use Rattle.stretches.proofs.Steps.{onward-none, onward-at}
@@ -23,7 +23,7 @@ module _ (l : List Stretch) (f : Fine 65536 l) (t : ℕ) (r : Front) (e : r ≡ 
     where
       go : (g : fronts.Front) → first_from l t ≡ g → (none_f ≡ r) × (onward l t ≡ [])
       go None k = (sym (e ∙ ap front k), onward-none l f.rising t k)
-      go (At x) k =
+      go (Some x) k =
           let w : r.start ≡ x.start = ap (λ (y : Front). y.start) (e ∙ ap front k) in
           let m = (front-good l f.rising t x k).0 in
           absurd (omega (arith, f.sound x.start x.end m, f.below x.start x.end m))
@@ -34,7 +34,7 @@ module _ (l : List Stretch) (f : Fine 65536 l) (t : ℕ) (r : Front) (e : r ≡ 
     where
       go : (g : fronts.Front) → first_from l t ≡ g → (t ≤ r.start) × (onward l t ≡ st r.start r.end ∷ onward l (r.start + 1))
       go None k = let z : r.start ≡ 65536 = ap (λ (y : Front). y.start) (e ∙ ap front k) in absurd (omega arith)
-      go (At x) k =
+      go (Some x) k =
           let w : r ≡ at_f x.start x.end = e ∙ ap front k in
           let y : suc x.start ≡ x.start + 1 = omega arith in (
             subst (λ (y : Front). t ≤ y.start) (sym w) (front-good l f.rising t x k).1,

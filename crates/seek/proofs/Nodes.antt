@@ -9,7 +9,7 @@ use lib.Dec.{eqb}
 use borrow.Author.Tests.{ne_eqb}
 use Rattle.stretches.specs.Stretch.{Stretch, Fine, keep, keep_first, contains_none, contains_some, lies_in_none, lies_in_some, at_most, Op, answers, marks}
 use Rattle.stretches.specs.Operators.{operator_of, apply}
-use Rattle.stretches.specs.Front.{None, At, first_from}
+use Rattle.stretches.specs.Front.{None, Some, first_from}
 use Rattle.stretches.specs.Table.{kind_at, first_at, second_at, stop_of}
 use Rattle.stretches.specs.inner.Operands.{operands_of}
 use Rattle.stretches.specs.Stretch as op
@@ -46,7 +46,7 @@ module _ (src : Source) (rows : List ℕ) (good : Good src rows) (v : ℕ) (lv :
     where
       go : (g : fronts.Front) → FirstIs (list_over src rows v) t g → (front g).start ≤ 65536
       go None h = omega arith
-      go (At x) h = omega (arith, fine.sound x.start x.end h.0, fine.below x.start x.end h.0)
+      go (Some x) h = omega (arith, fine.sound x.start x.end h.0, fine.below x.start x.end h.0)
 
   -- what was found from t serves from any t' up to it
   pub stays : (t t' : ℕ) → t ≤ t' → t' ≤ (first src rows v t).start → first src rows v t' ≡ first src rows v t
@@ -55,7 +55,7 @@ module _ (src : Source) (rows : List ℕ) (good : Good src rows) (v : ℕ) (lv :
     where
       go : (g : fronts.Front) → FirstIs (list_over src rows v) t g → t' ≤ (front g).start → front (first_from (list_over src rows v) t') ≡ front g
       go None h k = ap front (first-none (list_over src rows v) fine.rising t' (λ s e m. omega (arith, h s e m)))
-      go (At x) h k = ap front (first-is (list_over src rows v) fine.rising t' x.start x.end h.0 k (λ s e m p. (h.2 s e m (omega arith)).1))
+      go (Some x) h k = ap front (first-is (list_over src rows v) fine.rising t' x.start x.end h.0 k (λ s e m p. (h.2 s e m (omega arith)).1))
 
   -- nothing starts at line 65,536 or later
   pub past : (t : ℕ) → 65536 ≤ t → none_f ≡ first src rows v t

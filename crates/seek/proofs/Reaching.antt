@@ -9,7 +9,7 @@ use lib.Dec.{leb}
 use borrow.Author.Tests.{leb-true}
 use Rattle.basics.proofs.Basics.{cases, le-or-lt}
 use Rattle.stretches.specs.Stretch.{Stretch, In, Fine}
-use Rattle.stretches.specs.Front.{None, At, first_from, first_to}
+use Rattle.stretches.specs.Front.{None, Some, first_from, first_to}
 use Rattle.stretches.specs.Front as fronts
 use Rattle.stretches.proofs.Answers.{rising-mono}
 use Rattle.stretches.proofs.Fronts.{FirstIs, first_good, front-good}
@@ -49,14 +49,14 @@ module _ (l : List Stretch) (f : Fine 65536 l) (t e : ℕ) (early : (a z : ℕ) 
     where
       go : (g : fronts.Front) → first_from l t ≡ g → b ≡ front (first_to l e)
       go None k = is ∙ ap front k ∙ sym (ap front (to-gone k))
-      go (At y) k = is ∙ ap front k ∙ sym (ap front (to-from l e t early y k (omega (arith, ap (λ (x : Front). x.end) (is ∙ ap front k)))))
+      go (Some y) k = is ∙ ap front k ∙ sym (ap front (to-from l e t early y k (omega (arith, ap (λ (x : Front). x.end) (is ∙ ap front k)))))
 
   reach-last : 65536 ≤ b.start → first_to l e ≡ None
   reach-last h = go (first_from l t) refl
     where
       go : (g : fronts.Front) → first_from l t ≡ g → first_to l e ≡ None
       go None k = to-gone k
-      go (At y) k =
+      go (Some y) k =
           let m = (front-good l f.rising t y k).0 in
           absurd (omega (arith, ap (λ (x : Front). x.start) (is ∙ ap front k), f.sound y.start y.end m, f.below y.start y.end m))
 
@@ -66,7 +66,7 @@ module _ (l : List Stretch) (f : Fine 65536 l) (t e : ℕ) (early : (a z : ℕ) 
       go : (g : fronts.Front) → first_from l t ≡ g → (t ≤ a) ⊎ (a < t) → z < e
       go g k (inr o) = early a z m o
       go None k (inl o) = absurd (omega (arith, ap (λ (x : Front). x.start) (is ∙ ap front k)))
-      go (At y) k (inl o) =
+      go (Some y) k (inl o) =
           let w : b ≡ at_f y.start y.end = is ∙ ap front k in
           let i = front-good l f.rising t y k in
           let same : a ≡ y.start = omega (arith, (i.2 a z m o).0, ap (λ (x : Front). x.start) w) in

@@ -1,6 +1,5 @@
 -- What a seek finds and promises: the first stretch of a node's list from a line on, or to a line, and a state that serves the next seek. Assumes nothing.
 use Rattle.std.specs.Prelude.{ℕ, ◌+◌, ◌-◌, ◌≤◌, ◌<◌, ◌≡◌, List, length, get_or}
-use Rattle.stretches.specs.Front as fronts
 use Rattle.stretches.specs.Stretch.{In}
 use Rattle.stretches.specs.Front.{first_from, first_to}
 use Rattle.seek.specs.declared.Front.{Front}
@@ -15,8 +14,8 @@ abbrev pub none_f : Front
 none_f = at_f 65536 65536
 
 abbrev pub front : fronts.Front → Front
-front fronts.None = none_f
-front (fronts.At x) = at_f x.start x.end
+front None = none_f
+front (Some x) = at_f x.start x.end
 
 -- ── What is kept of a node: one past the start (0: nothing), the end, the line asked from ──
 

@@ -6,7 +6,7 @@ use native.Mathlib.Omega.{arith}
 use lib.ListN.{length, get_or, take, drop}
 use Rattle.stretches.specs.Stretch.{Stretch, st}
 use Rattle.stretches.specs.Front as fronts
-use Rattle.stretches.specs.Front.{None, At, head_of, nth}
+use Rattle.stretches.specs.Front.{None, Some, head_of, nth}
 use Rattle.stretches.specs.Filling.{flat}
 use Rattle.stretches.specs.Table.{list_at}
 use Rattle.stretches.proofs.Steps.{onward-all}
@@ -46,14 +46,14 @@ module _ (l : List Stretch) (k : ℕ) (w : Walked) (pair : List ℕ) (f : Fillin
       go (x ∷ m) h = absurd (omega (arith, f.count, ap (λ (m : List Stretch). length (take 1 m)) h))
 
   -- there is one
-  pair-some : (w.count ≡ 0 → ⊥) → nth l k ≡ At (st (get_or pair 0 0) (get_or pair 1 0))
+  pair-some : (w.count ≡ 0 → ⊥) → nth l k ≡ Some (st (get_or pair 0 0) (get_or pair 1 0))
   pair-some n = go (drop k l) refl
     where
-      go : (m : List Stretch) → drop k l ≡ m → head_of m ≡ At (st (get_or pair 0 0) (get_or pair 1 0))
+      go : (m : List Stretch) → drop k l ≡ m → head_of m ≡ Some (st (get_or pair 0 0) (get_or pair 1 0))
       go [] h = absurd (n (f.count ∙ ap (λ (m : List Stretch). length (take 1 m)) h))
       go (x ∷ m) h =
           let e = f.wrote ∙ ap (λ (m : List Stretch). flat (take 1 m) ++ drop (2 * length (take 1 m)) (0 ∷ 0 ∷ [])) h in
-          ap₂ (λ (s t : ℕ). At (st s t)) (sym (ap (λ (c : List ℕ). get_or c 0 0) e)) (sym (ap (λ (c : List ℕ). get_or c 1 0) e))
+          ap₂ (λ (s t : ℕ). Some (st s t)) (sym (ap (λ (c : List ℕ). get_or c 0 0) e)) (sym (ap (λ (c : List ℕ). get_or c 1 0) e))
 
 module _ (src : Source) (table rows : List ℕ) (good : Good src table) (k : ℕ) (w : Walked) (pair : List ℕ) (f : FillAll src table 0 k (0 ∷ 0 ∷ []) w pair) where
   -- the list's answers
