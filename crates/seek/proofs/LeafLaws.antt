@@ -11,7 +11,8 @@ use lib.Seq.{get_or-set_other}
 use lib.Dec.{leb}
 use borrow.Author.Tests.{le-leb, lt-leb}
 use Rattle.basics.proofs.Basics.{cases}
-use Rattle.stretches.specs.Stretch.{Stretch, st, In, Rising, Fine, marks}
+use Rattle.stretches.specs.declared.Stretch.{Stretch}
+use Rattle.stretches.specs.Stretch.{st, In, Rising, Fine, marks}
 use Rattle.stretches.specs.Lent.{part}
 use Rattle.stretches.specs.Front.{None, Some, first_from}
 use Rattle.stretches.specs.Front as fronts
