@@ -6,7 +6,7 @@
 
 use input::read_whole;
 use nodes::TABLE;
-use pattern::Verdict;
+use pattern::Refusal;
 use std::io;
 
 // The last decimal digit.
@@ -34,14 +34,12 @@ fn show(rt: &impl Print, letter: u8, number: u8, value: usize) -> io::Result<()>
 }
 
 fn answer(rt: &impl Print, text: &[u8]) -> io::Result<()> {
-    let r = pattern::read(text);
-    let v = r.verdict;
-    match v {
-        Verdict::Accepted => show(rt, b'A', b'0', r.table.count),
-        Verdict::Long => show(rt, b'R', b'2', 0),
-        Verdict::Misspelt(p) => show(rt, b'R', b'3', p),
-        Verdict::Crowded => show(rt, b'R', b'4', 0),
-        Verdict::Deep => show(rt, b'R', b'5', 0),
+    match pattern::read(text) {
+        Ok(table) => show(rt, b'A', b'0', table.count),
+        Err(Refusal::Long) => show(rt, b'R', b'2', 0),
+        Err(Refusal::Misspelt(p)) => show(rt, b'R', b'3', p),
+        Err(Refusal::Crowded) => show(rt, b'R', b'4', 0),
+        Err(Refusal::Deep) => show(rt, b'R', b'5', 0),
     }
 }
 
@@ -58,12 +56,10 @@ fn row(rt: &impl Print, rows: [usize; TABLE], v: usize) -> io::Result<()> {
 
 // A table: its nodes, and the entry past them.
 fn entries(rt: &impl Print, text: &[u8]) -> io::Result<()> {
-    let r = pattern::read(text);
-    let rows = r.table.rows;
-    let mut v = 0;
-    while v < 14 {
-        row(rt, rows, v)?;
-        v += 1;
+    if let Ok(table) = pattern::read(text) {
+        for v in 0..14 {
+            row(rt, table.rows, v)?;
+        }
     }
     Ok(())
 }
