@@ -10,7 +10,7 @@ use Rattle.pattern.proofs.automaton.last.Goals as goal
 use Rattle.pattern.proofs.automaton.last.Goals.{then-value-low-via-then-value-low, then-value-low-via-else-value-low+then-slot-field_count}
 
 pub low-requires : goal.low-requires
-low-requires c = (digits-bounded c.args.s 0 c.in-Digits.is 1000000 c.requires).4
+low-requires c = omega (arith, digits-bounded c.args.s 0 c.in-Digits.is 1000000 c.requires)
 
 pub overflow_add-slot : goal.overflow_add-slot
 overflow_add-slot c = omega (arith, digits-bounded c.args.s 0 c.in-Digits.is 1000000 c.requires)
