@@ -17,14 +17,14 @@ use Rattle.std.specs.Prelude.{Err}
 use Rattle.pattern.specs.declared.Refusal as pattern
 use Rattle.pattern.specs.declared.Refusal.TheVariants.{Long, Misspelt, Crowded, Deep}
 use Rattle.pattern.proofs.Outcomes.{refuses-says}
-use Rattle.meaning.specs.Refusals.{Refusal, refused, miscut, disordered, bad_count, of_pattern, refusal, pick_refusal, lowest}
+use Rattle.meaning.specs.Refusals.{Signal, refused, miscut, disordered, bad_count, of_pattern, refusal, pick_refusal, lowest}
 use Rattle.meaning.specs.Finding.{list_of}
 use Rattle.meaning.proofs.Finding.{long-log, short-log, refused-list, list-few, pick-as, pick-count}
 
 -- ── Over a pattern and a log ──
 
 -- a refusal of at most this number and place
-pub record Small (r : Refusal) : Type 0 where
+pub record Small (r : Signal) : Type 0 where
   pub number : r.number ≤ 5
   pub place : r.place ≤ 1024
 

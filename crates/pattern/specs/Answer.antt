@@ -1,6 +1,7 @@
 -- What reading a text answers: the table of the pattern's nodes in preorder, or the refusal.
 -- Assumes nothing.
 use Rattle.std.specs.Prelude.{ℕ, ◌≤◌, ◌<◌, ◌≡◌, List, length, replicate, Result, Ok, Err}
+use Rattle.stretches.specs.Table.{no_node}
 use Rattle.pattern.specs.Pattern.{Pattern, Spells, Longest, nodes, depth}
 use Rattle.pattern.specs.Rows.{rows_of}
 use Rattle.pattern.specs.declared.Table.{Table}
@@ -13,7 +14,7 @@ table p = record { count = nodes p; rows = rows_of p }
 
 -- what stands for the table of a refused text: one of no nodes
 abbrev pub no_table : Table
-no_table = record { count = 0; rows = replicate 160 0 }
+no_table = record { count = 0; rows = replicate 32 no_node }
 
 -- no refusal
 pub record IsAccepted (s : List ℕ) (t : Table) : Type 0 where

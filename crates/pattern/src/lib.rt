@@ -8,15 +8,15 @@ mod automaton;
 mod scanner;
 mod tree;
 
-use nodes::{NODES, TABLE};
+use nodes::{NODES, Nodes};
 use scanner::scan;
 use tree::{measure, tabled};
 
-// The nodes in preorder: node v's kind at v, its subtree's size at 32 + v, its three numbers at 64 + v, 96 + v and 128 + v; zeros elsewhere.
-#[derive(Clone, Copy)]
+// The nodes in preorder, and how many they are; behind them no nodes.
+#[derive(Clone, Copy, Debug, PartialEq, Eq)]
 pub struct Table {
     pub count: usize,
-    pub rows: [usize; TABLE],
+    pub rows: Nodes,
 }
 
 // A pattern's bounds: bytes, and depth; NODES bounds its nodes.

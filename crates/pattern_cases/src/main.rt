@@ -5,7 +5,7 @@
 #![tactic(auto)]
 
 use input::read_whole;
-use nodes::TABLE;
+use nodes::Node;
 use pattern::Refusal;
 use std::io;
 
@@ -43,22 +43,19 @@ fn answer(rt: &impl Print, text: &[u8]) -> io::Result<()> {
     }
 }
 
-// The entries of node v: kind, size, first and second number.
-fn row(rt: &impl Print, rows: [usize; TABLE], v: usize) -> io::Result<()> {
-    if v < 32 {
-        field(rt, rows[v], 44u8)?;
-        field(rt, rows[32 + v], 44u8)?;
-        field(rt, rows[64 + v], 44u8)?;
-        field(rt, rows[96 + v], 10u8)?;
-    }
-    Ok(())
+// The entries of a node: kind, size, first and second number.
+fn row(rt: &impl Print, node: Node) -> io::Result<()> {
+    field(rt, node.kind, b',')?;
+    field(rt, node.size, b',')?;
+    field(rt, node.first, b',')?;
+    field(rt, node.second, b'\n')
 }
 
 // A table: its nodes, and the entry past them.
 fn entries(rt: &impl Print, text: &[u8]) -> io::Result<()> {
     if let Ok(table) = pattern::read(text) {
-        for v in 0..14 {
-            row(rt, table.rows, v)?;
+        for node in &table.rows[..14] {
+            row(rt, *node)?;
         }
     }
     Ok(())

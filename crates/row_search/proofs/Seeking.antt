@@ -8,7 +8,7 @@ use lib.ListN.{length, get_or, take, drop, drop_of_length-le}
 use lib.Pow.{shr_lt}
 use lib.Count.{count_trailing_zeros}
 use Rattle.stretches.specs.Stretch.{st, marks}
-use Rattle.stretches.specs.Front.{None, At, first_from, head_of}
+use Rattle.stretches.specs.Front.{None, Some, first_from, head_of}
 use Rattle.marks.specs.Row.{bits, flags, lies, row}
 use Rattle.marks.proofs.Flags.{open-flags, next-flags, past-flags}
 use Rattle.marks.proofs.Lines.{first-from, walk-zero, walk_first}
@@ -79,6 +79,6 @@ module _ (words : List ℕ) (at width t k line : ℕ) (c : Sought words at width
       }
 
 pub hit : (words : List ℕ) (at width t k line w : ℕ) → Sought words at width t k line w → (w ≡ 0 → ⊥)
-    → first_from (marks 0 (row words at width)) t ≡ At (st (line + count_trailing_zeros 64 w) (line + count_trailing_zeros 64 w))
+    → first_from (marks 0 (row words at width)) t ≡ Some (st (line + count_trailing_zeros 64 w) (line + count_trailing_zeros 64 w))
 hit words at width t k line w c h =
     c.ahead ∙ ap head_of (walk_first (64 * suc k - line) w (omega (arith, h)) c.word (omega (arith, c.from)) line (flags (drop (suc k) (take width (drop at words)))))

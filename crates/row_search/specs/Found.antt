@@ -1,14 +1,14 @@
 -- The next mark of a row. Assumes nothing.
 use Rattle.std.specs.Prelude.{◌≡◌, refl, true, false, [], ◌∷◌}
 use Rattle.stretches.specs.Stretch.{marks}
-use Rattle.stretches.specs.Front.{Front, None, At, first_from}
+use Rattle.stretches.specs.Front.{Front, None, Some, first_from}
 use Rattle.marks.specs.Row.{bits, flags, row}
 use Rattle.row_search.specs.declared.Found.{Found}
 
 -- the first line of a front; where there is none, line 0
 unfoldable pub found : Front → Found
 found None = record { hit = false; line = 0 }
-found (At x) = record { hit = true; line = x.start }
+found (Some x) = record { hit = true; line = x.start }
 
 -- ── Examples ──
 

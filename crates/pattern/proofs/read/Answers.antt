@@ -1,7 +1,7 @@
 -- `read`: each return's answer says what holds of the text, and so is the reading of it.
 -- Assumes nothing.
 use borrow.Author.Tests.{not-true, not-false}
-use Rattle.pattern.proofs.Answering.{told-stop, told-whole, encodes, says-misspelt, says-crowded, says-deep, says-accepted, columns-long}
+use Rattle.pattern.proofs.Answering.{told-stop, told-whole, encodes, says-misspelt, says-crowded, says-deep, says-accepted}
 use Rattle.pattern.proofs.Outcomes.{says-reading}
 use Rattle.pattern.proofs.read.Goals as goal
 
@@ -29,14 +29,8 @@ returns-then-m-gt-DEPTH_MAX c = let s = c.args.text.now in
     let m = told-whole s r c.scan-r.ensures (not-false _ c.if-not-r.false) in
     says-reading s _ (says-deep s r c.measure-m.result c.if-text-gt-PATTERN_MAX.false m c.if-r-gt-NODES.false (c.measure-m.ensures (encodes s r m c.if-r-gt-NODES.false)) c.if-m-gt-DEPTH_MAX.true)
 
-pub tabled-requires : goal.tabled-requires
-tabled-requires c = let s = c.args.text.now in
-    let r = c.scan-r.result in
-    let m = told-whole s r c.scan-r.ensures (not-false _ c.if-not-r.false) in
-    columns-long s r c.measure-m.result m c.if-r-gt-NODES.false (c.measure-m.ensures (encodes s r m c.if-r-gt-NODES.false))
-
 pub returns : goal.returns
 returns c = let s = c.args.text.now in
     let r = c.scan-r.result in
     let m = told-whole s r c.scan-r.ensures (not-false _ c.if-not-r.false) in
-    says-reading s _ (says-accepted s r c.measure-m.result c.tabled.result c.if-text-gt-PATTERN_MAX.false m c.if-r-gt-NODES.false (c.measure-m.ensures (encodes s r m c.if-r-gt-NODES.false)) c.if-m-gt-DEPTH_MAX.false c.tabled.ensures.0 c.tabled.ensures.1)
+    says-reading s _ (says-accepted s r c.measure-m.result c.tabled.result c.if-text-gt-PATTERN_MAX.false m c.if-r-gt-NODES.false (c.measure-m.ensures (encodes s r m c.if-r-gt-NODES.false)) c.if-m-gt-DEPTH_MAX.false c.tabled.ensures)
