@@ -15,7 +15,7 @@ use Rattle.pattern.specs.declared.Table.{Table}
 use Rattle.pattern.proofs.Outcomes.{accepts-spells}
 use Rattle.pattern.proofs.Rows.{table-tree}
 use Rattle.meaning.specs.Meaning.{answers_in, table_in}
-use Rattle.meaning.specs.Refusals.{Refusal, refused, refusal}
+use Rattle.meaning.specs.Refusals.{Signal, refused, refusal}
 use Rattle.meaning.specs.Finding.{list_of}
 use Rattle.meaning.proofs.Finding.{long-log, short-log, accepted-list, accepted-number}
 use Rattle.meaning.proofs.Table.{table-answers}
@@ -38,7 +38,7 @@ module _ (text log : List ℕ) where
   pub read_short : (r : Parsed) (n p : ℕ) → length log ≤ 61440 → pattern.ReadGives text r → n ≡ number_of r.verdict → p ≡ place_of r.verdict → said n p r.table.rows ≡ readied text log
   read_short r n p h g en ep =
       let e = short-log text log h in
-      λ i. said ((en ∙ (g.number ∙ ap (λ (x : Refusal). x.number) (sym e))) i) ((ep ∙ (g.place ∙ ap (λ (x : Refusal). x.place) (sym e))) i) ((ap (λ (t : Table). t.rows) g.table ∙ rows_short h) i)
+      λ i. said ((en ∙ (g.number ∙ ap (λ (x : Signal). x.number) (sym e))) i) ((ep ∙ (g.place ∙ ap (λ (x : Signal). x.place) (sym e))) i) ((ap (λ (t : Table). t.rows) g.table ∙ rows_short h) i)
 
   -- of an accepted call the log is not too long, the pattern stands in the table, and the list is the pattern's
   pub record AcceptedTree : Type 0 where

@@ -10,7 +10,8 @@ use lib.ListN.{length}
 use lib.Dec.{leb, ltb, eqb}
 use borrow.Author.Tests.{leb-true, ltb-true, eqb-true, le-leb}
 use Rattle.basics.proofs.Basics.{cases, and-true, le-or-lt}
-use Rattle.stretches.specs.Stretch.{Stretch, st, marks, any_of, keep, keep_first, at_most, Or, answers}
+use Rattle.stretches.specs.declared.Stretch.{Stretch}
+use Rattle.stretches.specs.Stretch.{st, marks, any_of, keep, keep_first, at_most, Or, answers}
 use Rattle.stretches.specs.Table.{kind_at, first_at, second_at, next_of, stop_of, operands_up, operand_numbers}
 use Rattle.stretches.specs.inner.Operands.{operands_from}
 use Rattle.stretches.proofs.Marks.{marks-clear, keep-marks}

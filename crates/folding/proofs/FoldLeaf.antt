@@ -11,7 +11,8 @@ use lib.Seq.{get_or-set_same, get_or-set_other}
 use lib.Dec.{eqb}
 use borrow.Author.Tests.{eqb-true}
 use Rattle.basics.proofs.Basics.{cases, eq-or-ne}
-use Rattle.stretches.specs.Stretch.{Stretch, Fine, marks}
+use Rattle.stretches.specs.declared.Stretch.{Stretch}
+use Rattle.stretches.specs.Stretch.{Fine, marks}
 use Rattle.stretches.specs.Operators.{operator_of, apply}
 use Rattle.stretches.specs.Table.{kind_at, size_at, first_at, second_at, Given, list_at}
 use Rattle.stretches.specs.inner.Operands.{operands_of}

@@ -10,7 +10,8 @@ use lib.ListN.{length, get_or, set, drop, replicate, length-set, length-replicat
 use lib.Seq.{get_or-set_same, get_or-set_other}
 use lib.Dec.{eqb}
 use borrow.Author.Tests.{le-leb, ne_eqb}
-use Rattle.stretches.specs.Stretch.{Stretch, Fine, marks, length_of}
+use Rattle.stretches.specs.declared.Stretch.{Stretch}
+use Rattle.stretches.specs.Stretch.{Fine, marks, length_of}
 use Rattle.stretches.specs.Operators.{operator_of, apply}
 use Rattle.stretches.specs.Lent.{part, lists_from, lists_of}
 use Rattle.stretches.specs.inner.Starts.{start_of}

@@ -11,7 +11,8 @@ use lib.Seq.{take_at, drop_at, drop-drop, length-take-le}
 use lib.Dec.{leb, eqb}
 use borrow.Author.Tests.{le-leb, lt-ltb, leb-true, eqb-true, eqb-false, not-true, not-false}
 use Rattle.basics.proofs.Basics.{cases, true-or-false, true-and, and-true, or-false, le-or-lt}
-use Rattle.stretches.specs.Stretch.{Stretch, st, Fine, marks}
+use Rattle.stretches.specs.declared.Stretch.{Stretch}
+use Rattle.stretches.specs.Stretch.{st, Fine, marks}
 use Rattle.stretches.specs.Operators.{operator_of, apply}
 use Rattle.stretches.specs.Table.{kind_at, size_at, first_at, second_at, leaf_kind, stop_of, Given, list_at}
 use Rattle.stretches.specs.inner.Operands.{operands_of}

@@ -1,14 +1,13 @@
 -- The next mark of a row. Assumes nothing.
-use Rattle.std.specs.Prelude.{◌≡◌, refl, ℕ, Option, Some, None, [], ◌∷◌}
+use Rattle.std.specs.Prelude.{◌≡◌, refl, ℕ, Option, Some, None, option_map, [], ◌∷◌}
+use Rattle.stretches.specs.declared.Stretch.{Stretch}
 use Rattle.stretches.specs.Stretch.{marks}
-use Rattle.stretches.specs.Front as fronts
-use Rattle.stretches.specs.Front.{Front, At, first_from}
+use Rattle.stretches.specs.Front.{first_from}
 use Rattle.marks.specs.Row.{bits, flags, row}
 
--- the line with which a front starts
-abbrev pub line_of : Front → Option ℕ
-line_of fronts.None = None
-line_of (At x) = Some x.start
+-- the line with which the stretch starts, if there is one
+abbrev pub line_of : Option Stretch → Option ℕ
+line_of = option_map (λ (x : Stretch). x.start)
 
 -- ── Examples ──
 

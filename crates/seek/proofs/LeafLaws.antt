@@ -11,9 +11,10 @@ use lib.Seq.{get_or-set_other}
 use lib.Dec.{leb}
 use borrow.Author.Tests.{le-leb, lt-leb}
 use Rattle.basics.proofs.Basics.{cases}
-use Rattle.stretches.specs.Stretch.{Stretch, st, In, Rising, Fine, marks}
+use Rattle.stretches.specs.declared.Stretch.{Stretch}
+use Rattle.stretches.specs.Stretch.{st, In, Rising, Fine, marks}
 use Rattle.stretches.specs.Lent.{part}
-use Rattle.stretches.specs.Front.{None, At, first_from}
+use Rattle.stretches.specs.Front.{None, Some, first_from}
 use Rattle.stretches.specs.Front as fronts
 use Rattle.stretches.proofs.Fronts.{front-good}
 use Rattle.stretches.proofs.Marks.{in-marks, rising-marks}
@@ -31,11 +32,11 @@ use Rattle.seek.specs.inner.Leaves.{Resumed, Ran, Hinted, ListFound, RowFound}
 -- one that starts before t is passed
 part-pass : (items : List ℕ) (i h t : ℕ) → i + 1 < h → h ≤ length items → get_or items i 0 < t → first_from (part items i h) t ≡ first_from (part items (i + 2) h) t
 part-pass items i h t lt le b =
-    ap (λ (l : List Stretch). first_from l t) (part-cons items i h lt le) ∙ ap (λ c. cond c (At (st (get_or items i 0) (get_or items (i + 1) 0))) (first_from (part items (i + 2) h) t)) (lt-leb t (get_or items i 0) b)
+    ap (λ (l : List Stretch). first_from l t) (part-cons items i h lt le) ∙ ap (λ c. cond c (Some (st (get_or items i 0) (get_or items (i + 1) 0))) (first_from (part items (i + 2) h) t)) (lt-leb t (get_or items i 0) b)
 
-part_at : (items : List ℕ) (i h t : ℕ) → i + 1 < h → h ≤ length items → t ≤ get_or items i 0 → first_from (part items i h) t ≡ At (st (get_or items i 0) (get_or items (i + 1) 0))
+part_at : (items : List ℕ) (i h t : ℕ) → i + 1 < h → h ≤ length items → t ≤ get_or items i 0 → first_from (part items i h) t ≡ Some (st (get_or items i 0) (get_or items (i + 1) 0))
 part_at items i h t lt le b =
-    ap (λ (l : List Stretch). first_from l t) (part-cons items i h lt le) ∙ ap (λ c. cond c (At (st (get_or items i 0) (get_or items (i + 1) 0))) (first_from (part items (i + 2) h) t)) (le-leb t (get_or items i 0) b)
+    ap (λ (l : List Stretch). first_from l t) (part-cons items i h lt le) ∙ ap (λ c. cond c (Some (st (get_or items i 0) (get_or items (i + 1) 0))) (first_from (part items (i + 2) h) t)) (le-leb t (get_or items i 0) b)
 
 -- one that starts before t is passed on the run
 pub ran-turn : (items : List ℕ) (p hi t i : ℕ) → first_from (part items p hi) t ≡ first_from (part items i hi) t → i + 1 < hi → hi ≤ length items → get_or items i 0 < t
@@ -125,7 +126,7 @@ module _ (words : List ℕ) (at width t : ℕ) (f : marked.Found) (is : f ≡ fo
     where
       go : (g : fronts.Front) → f ≡ found g → r ≡ front g
       go None k = e
-      go (At x) k = let z : false ≡ true = cc in absurd (let y : ◌≡◌ {A = ℕ} 0 1 = cc in omega arith)
+      go (Some x) k = let z : false ≡ true = cc in absurd (let y : ◌≡◌ {A = ℕ} 0 1 = cc in omega arith)
 
   -- the line that was hit
   row-hit : f.hit ≡ true → Fine 65536 (marks 0 (row words at width)) → (at_f f.line f.line ≡ front (first_from (marks 0 (row words at width)) t)) × (f.line < 65536)
@@ -134,7 +135,7 @@ module _ (words : List ℕ) (at width t : ℕ) (f : marked.Found) (is : f ≡ fo
     where
       go : (g : fronts.Front) → first_from (marks 0 (row words at width)) t ≡ g → f ≡ found g → (at_f f.line f.line ≡ front g) × (f.line < 65536)
       go None z k = let y : false ≡ true = cc in absurd (let y : ◌≡◌ {A = ℕ} 0 1 = cc in omega arith)
-      go (At x) z k =
+      go (Some x) z k =
           let l : f.line ≡ x.start = ap (λ (f : marked.Found). f.line) k in
           let m = front-good (marks 0 (row words at width)) (rising-marks 0 (row words at width)) t x z in
           let o = (in-marks 0 (row words at width) x.start x.end m.0).one in

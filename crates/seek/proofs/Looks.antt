@@ -6,8 +6,9 @@ use Prim.Native.Nat.{ℕ, suc, ◌+◌, ◌≤◌, ◌<◌, min, max}
 use native.Mathlib.Omega.{arith}
 use lib.Dec.{leb, ltb, eqb}
 use borrow.Author.Tests.{leb-true, leb-false, ltb-false, lt-ltb, le-ltb, eqb-true, eqb-false}
-use Rattle.stretches.specs.Stretch.{Stretch, st, In, AllRising, AllSound, Fine, low, high, keep, contains_none, lies_in_none, Op, And, Row, Then, answers}
-use Rattle.stretches.specs.Front.{None, At, first_from, first_to}
+use Rattle.stretches.specs.declared.Stretch.{Stretch}
+use Rattle.stretches.specs.Stretch.{st, In, AllRising, AllSound, Fine, low, high, keep, contains_none, lies_in_none, Op, And, Row, Then, answers}
+use Rattle.stretches.specs.Front.{None, Some, first_from, first_to}
 use Rattle.stretches.specs.Front as fronts
 use Rattle.stretches.specs.Table.{holder_kind}
 use Rattle.basics.proofs.Basics.{cases}
@@ -24,20 +25,20 @@ use Rattle.seek.specs.First.{at_f, none_f, front}
 use Rattle.seek.specs.inner.Fronts.{past_of, bad_f, kept, go_f}
 use Rattle.seek.specs.inner.Looks.{span_from, chain_from, misses}
 
-none-at : (x : Stretch) → None ≡ At x → ⊥
+none-at : (x : Stretch) → None ≡ Some x → ⊥
 none-at x e = let z : ◌≡◌ {A = ℕ} 0 1 = cc in omega arith
 
 -- ── Fronts below 65,536 ──
 
 -- with a front, on; without, none
 go-front : (P : Front → Type 0) (l : List Stretch) → Fine 65536 l → (t : ℕ) (k : Front → Front) → (first_from l t ≡ None → P none_f)
-    → ((x : Stretch) → first_from l t ≡ At x → x.start < 65536 → P (k (at_f x.start x.end))) → P (go_f (front (first_from l t)) k)
+    → ((x : Stretch) → first_from l t ≡ Some x → x.start < 65536 → P (k (at_f x.start x.end))) → P (go_f (front (first_from l t)) k)
 unfolding go_f
 go-front P l f t k none some = go (first_from l t) refl
   where
     go : (g : fronts.Front) → first_from l t ≡ g → P (go_f (front g) k)
     go None e = none e
-    go (At x) e =
+    go (Some x) e =
         let m = (front-good l f.rising t x e).0 in
         let lt : x.start < 65536 = omega (arith, f.sound x.start x.end m, f.below x.start x.end m) in
         subst (λ c. P (cond c (k (at_f x.start x.end)) none_f)) (sym (lt-ltb x.start 65536 lt)) (some x e lt)
@@ -95,7 +96,7 @@ span-fold t [] f h = span-some [] tt refl refl
 span-fold t (l ∷ ls) f h = go-front (SpanIs t (l ∷ ls) h) l (first_fine f) t (λ x. span_from t (at_f (min h.start x.start) (max h.end x.end)) ls)
     (λ e. span_none (no-fronts l ls t e)) (λ x e lt. on x e (span-fold t ls (rest-fine f) (at_f (min h.start x.start) (max h.end x.end))))
   where
-    on : (x : Stretch) → first_from l t ≡ At x → {q : Front} → SpanIs t ls (at_f (min h.start x.start) (max h.end x.end)) q → SpanIs t (l ∷ ls) h q
+    on : (x : Stretch) → first_from l t ≡ Some x → {q : Front} → SpanIs t ls (at_f (min h.start x.start) (max h.end x.end)) q → SpanIs t (l ∷ ls) h q
     on x e (span_none n) = span_none (less-fronts l ls t n)
     on x e (span-some u g i j) = span-some (x ∷ u) (e, g) i j
 
@@ -129,8 +130,8 @@ no-chain : (l : List Stretch) (ls : List (List Stretch)) (m : ℕ) → first_fro
 no-chain l ls m e [] f = f
 no-chain l ls m e (a ∷ u) f = none-at a (sym e ∙ f.0)
 
-module _ (l : List Stretch) (ls : List (List Stretch)) (m : ℕ) (x : Stretch) (e : first_from l m ≡ At x) where
-  head-is : (a : Stretch) → first_from l m ≡ At a → a ≡ x
+module _ (l : List Stretch) (ls : List (List Stretch)) (m : ℕ) (x : Stretch) (e : first_from l m ≡ Some x) where
+  head-is : (a : Stretch) → first_from l m ≡ Some a → a ≡ x
   head-is a f = cc
 
   less-chain : ((u : List Stretch) → ChainAt (suc x.end) ls u → ⊥) → (u : List Stretch) → ChainAt m (l ∷ ls) u → ⊥
@@ -153,12 +154,12 @@ chain-fold tight (l ∷ ls) f s e lt = subst (λ (m : ℕ). ChainIs tight (l ∷
     (λ x h k. on x h tight refl (eqb x.start (suc e)) refl
     (chain-fold tight ls (rest-fine f) s x.end (f.below.0 x.start x.end (front-good l f.rising.0 (suc e) x h).0))))
   where
-    more : (x : Stretch) → first_from l (suc e) ≡ At x → (tight ≡ true → x.start ≡ suc e) → {q : Front} → ChainIs tight ls s x.end q → ChainIs tight (l ∷ ls) s e q
+    more : (x : Stretch) → first_from l (suc e) ≡ Some x → (tight ≡ true → x.start ≡ suc e) → {q : Front} → ChainIs tight ls s x.end q → ChainIs tight (l ∷ ls) s e q
     more x h a (chain-none n) = chain-none (less-chain l ls (suc e) x h n)
     more x h a (chain-some u g w i j) = chain-some (x ∷ u) (h, g) (λ z. (h, a z, w z)) i j
     more x h a (chain-broken z n i) = chain-broken z (less-row l ls (suc e) x h (λ u y w. n u w)) i
 
-    on : (x : Stretch) → first_from l (suc e) ≡ At x → (b : Bool) → tight ≡ b → (c : Bool) → eqb x.start (suc e) ≡ c → {q : Front} → ChainIs tight ls s x.end q
+    on : (x : Stretch) → first_from l (suc e) ≡ Some x → (b : Bool) → tight ≡ b → (c : Bool) → eqb x.start (suc e) ≡ c → {q : Front} → ChainIs tight ls s x.end q
         → ChainIs tight (l ∷ ls) s e (cond (b && not c) (bad_f s) q)
     on x h false z c y g = more x h (λ w. let k : ◌≡◌ {A = ℕ} 0 1 = cc in absurd (omega arith)) g
     on x h true z true y g = more x h (λ w. eqb-true x.start (suc e) y) g
@@ -177,13 +178,13 @@ chain-last [] r d m a (b ∷ u) f = absurd f
 
 pub data SkipLook (l : List Stretch) (t : ℕ) : Front → Type 0 where
   k-none : first_from l t ≡ None → SkipLook l t none_f
-  k-good : {r : Front} → r.start < 65536 → r.end < 65536 → first_from l t ≡ At (st r.start r.end) → SkipLook l t r
+  k-good : {r : Front} → r.start < 65536 → r.end < 65536 → first_from l t ≡ Some (st r.start r.end) → SkipLook l t r
   k-bad : {r : Front} → r.start < 65536 → r.end ≡ 65536 → t ≤ r.start → first_from l t ≡ first_from l (suc r.start) → SkipLook l t r
 
 module _ (l : List Stretch) (ls : List (List Stretch)) (f : AllFine 65536 (l ∷ ls)) (t : ℕ) where
   -- a chain from the first list's front on
   chain-look : (tight : Bool) (P : Front → Type 0) → (((u : List Stretch) → ChainAt t (l ∷ ls) u → ⊥) → P none_f)
-      → ((x : Stretch) → first_from l t ≡ At x → x.start < 65536 → (q : Front) → ChainIs tight ls x.start x.end q → P q)
+      → ((x : Stretch) → first_from l t ≡ Some x → x.start < 65536 → (q : Front) → ChainIs tight ls x.start x.end q → P q)
       → P (go_f (front (first_from l t)) (λ x. chain_from tight x.start x.end ls))
   chain-look tight P none on = go-front P l (first_fine f) t (λ x. chain_from tight x.start x.end ls) (λ e. none (no-chain l ls t e))
       (λ x e lt. on x e lt _ (chain-fold tight ls (rest-fine f) x.start x.end (f.below.0 x.start x.end (front-good l f.rising.0 t x e).0)))
@@ -191,7 +192,7 @@ module _ (l : List Stretch) (ls : List (List Stretch)) (f : AllFine 65536 (l ∷
   pub then-look : TightLook Then (l ∷ ls) t (go_f (front (first_from l t)) (λ x. chain_from false x.start x.end ls))
   then-look = chain-look false (TightLook Then (l ∷ ls) t) (λ n. t-none (then-gone (l ∷ ls) f.rising f.sound t n)) (λ x e lt q c. on x e c)
     where
-      on : (x : Stretch) → first_from l t ≡ At x → {q : Front} → ChainIs false ls x.start x.end q → TightLook Then (l ∷ ls) t q
+      on : (x : Stretch) → first_from l t ≡ Some x → {q : Front} → ChainIs false ls x.start x.end q → TightLook Then (l ∷ ls) t q
       on x e (chain-none n) = t-none (then-gone (l ∷ ls) f.rising f.sound t (less-chain l ls t x e n))
       on x e (chain-some u g w i j) =
           subst (TightLook Then (l ∷ ls) t) (sym i)
@@ -204,12 +205,12 @@ module _ (l : List Stretch) (ls : List (List Stretch)) (f : AllFine 65536 (l ∷
       gone : ((u : List Stretch) → ChainAt t (l ∷ ls) u → ⊥) → first_from (answers Row (l ∷ ls)) t ≡ None
       gone n = gone-front Row (l ∷ ls) f.rising f.sound t (row-gone (l ∷ ls) f.rising f.sound t n)
 
-      on : (x : Stretch) → first_from l t ≡ At x → x.start < 65536 → FirstIs l t (At x) → {q : Front} → ChainIs true ls x.start x.end q → SkipLook (answers Row (l ∷ ls)) t q
+      on : (x : Stretch) → first_from l t ≡ Some x → x.start < 65536 → FirstIs l t (Some x) → {q : Front} → ChainIs true ls x.start x.end q → SkipLook (answers Row (l ∷ ls)) t q
       on x e lt z (chain-none n) = k-none (gone (less-chain l ls t x e n))
       on x e lt z (chain-some u g w i j) =
           subst (SkipLook (answers Row (l ∷ ls)) t) (sym i)
           (k-good lt j (row-taken l ls f.rising f.sound t x u e (first-self l f.rising.0 x z.0, refl, w refl)
-          ∙ ap (λ (n : ℕ). At (st x.start n)) (chain-last (l ∷ ls) f.rising f.sound t x u (e, g))))
+          ∙ ap (λ (n : ℕ). Some (st x.start n)) (chain-last (l ∷ ls) f.rising f.sound t x u (e, g))))
       on x e lt z (chain-broken y n i) =
           subst (SkipLook (answers Row (l ∷ ls)) t) (sym i) (k-bad lt refl z.1 (row-left l ls f.rising f.sound t x e (λ w h. n w h.2)))
 
@@ -222,7 +223,7 @@ keep-look test mark l f m t =
     let g = front-good l f.rising t x e in
     subst (λ b. SkipLook (keep test l) t (kept (at_f x.start x.end) b)) (sym (m x g.0)) (by x e lt g (test x) refl))
   where
-    by : (x : Stretch) → first_from l t ≡ At x → x.start < 65536 → FirstIs l t (At x) → (c : Bool) → test x ≡ c → SkipLook (keep test l) t (kept (at_f x.start x.end) c)
+    by : (x : Stretch) → first_from l t ≡ Some x → x.start < 65536 → FirstIs l t (Some x) → (c : Bool) → test x ≡ c → SkipLook (keep test l) t (kept (at_f x.start x.end) c)
     by x e lt g true y = k-good lt (f.below x.start x.end g.0) (keep_taken test l f.rising t x e y)
     by x e lt g false y = k-bad lt refl g.1 (keep_left test l f.rising t x e y)
 
@@ -231,7 +232,7 @@ keep-look test mark l f m t =
 lt_not_le : (a b : ℕ) → ltb a b ≡ not (leb b a)
 lt_not_le a b = cases (leb b a) (λ c. ltb a b ≡ not c) (λ k. le-ltb a b (leb-true b a k)) (λ k. lt-ltb a b (leb-false b a k))
 
-absent-if : (y : Stretch) (b : Bool) → not b ≡ absent (cond b (At y) None)
+absent-if : (y : Stretch) (b : Bool) → not b ≡ absent (cond b (Some y) None)
 absent-if y true = refl
 absent-if y false = refl
 
@@ -243,7 +244,7 @@ inner-missed k h (b ∷ bs) r x lt =
   where
     go : (g : fronts.Front) → ltb x.end (front g).end ≡ absent (only_if (λ y. leb y.end x.end) g)
     go None = lt-ltb x.end 65536 lt
-    go (At y) = lt_not_le x.end y.end ∙ absent-if y (leb y.end x.end)
+    go (Some y) = lt_not_le x.end y.end ∙ absent-if y (leb y.end x.end)
 
 -- none of B holds it
 pub holder-missed : (k : ℕ) → holder_kind k ≡ true → (ls : List (List Stretch)) → AllRising ls → (x : Stretch) → x.start < 65536 → misses k ls (at_f x.start x.end) ≡ lies_in_none ls x
@@ -253,4 +254,4 @@ holder-missed k h (b ∷ bs) r x lt =
   where
     go : (g : fronts.Front) → ltb x.start (front g).start ≡ absent (only_if (λ y. leb y.start x.start) g)
     go None = lt-ltb x.start 65536 lt
-    go (At y) = lt_not_le x.start y.start ∙ absent-if y (leb y.start x.start)
+    go (Some y) = lt_not_le x.start y.start ∙ absent-if y (leb y.start x.start)

@@ -8,7 +8,7 @@ use lib.Seq.{take_at}
 use lib.Dec.{eqb}
 use borrow.Author.Tests.{eq-eqb, eqb-true}
 use Rattle.stretches.specs.Stretch.{In, together, And, answers}
-use Rattle.stretches.specs.Front.{Front, None, At, nth}
+use Rattle.stretches.specs.Front.{Front, None, Some, nth}
 use Rattle.stretches.specs.Taking.{AnswerCounts, taking}
 use Rattle.stretches.specs.Lent.{lists_of}
 use Rattle.stretches.specs.Laziness.{EachReaches, each_to_first, Agree}
@@ -70,12 +70,12 @@ module _ (items ends counts : List ℕ) (p : ℕ) (r : Taken) (cells : List ℕ)
   lists : AllFine 65536 (lists_of items ends)
   lists = fine 2 items ends counts p r cells t
 
-  answered : nth (answers And (lists_of items ends)) p ≡ At (handed_out r)
+  answered : nth (answers And (lists_of items ends)) p ≡ Some (handed_out r)
   answered = sym (and-taken (lists_of items ends) lists.rising lists.sound p) ∙ go (taking And (lists_of items ends) p).answer (result-is 2 items ends counts p r cells t)
     where
-      go : (g : Front) → r ≡ given g → g ≡ At (handed_out r)
+      go : (g : Front) → r ≡ given g → g ≡ Some (handed_out r)
       go None e = absurd (true≢false (sym f ∙ ap (λ (s : Taken). s.found) e))
-      go (At x) e = λ i. At (record { start = sym (ap (λ (s : Taken). s.start) e) i; end = sym (ap (λ (s : Taken). s.end) e) i })
+      go (Some x) e = λ i. Some (record { start = sym (ap (λ (s : Taken). s.start) e) i; end = sym (ap (λ (s : Taken). s.end) e) i })
 
   -- from each list they do, with at most one beyond it, and that only where this first one starts at the answer's start
   pub take-reaches : EachReaches (handed_out r) (lists_of items ends) (counts_in ends cells)

@@ -10,7 +10,7 @@ use lib.ListN.{length, get_or}
 use lib.Dec.{ltb, eqb}
 use borrow.Author.Tests.{lt-ltb, le-ltb, eq-eqb, ne_eqb}
 use Rattle.stretches.specs.Stretch.{Stretch, st}
-use Rattle.stretches.specs.Front.{None, At, nth}
+use Rattle.stretches.specs.Front.{None, Some, nth}
 use Rattle.stretches.specs.Lent.{part, lists_of}
 use Rattle.stretches.specs.inner.Starts.{start_of}
 use Rattle.basics.proofs.Basics.{le-or-lt}
@@ -28,14 +28,14 @@ nth-part-none items hi (suc m) lo le h = go (le-or-lt hi (lo + 1)) (nth-part-non
     go (inl g) rest = ap (λ (l : List Stretch). nth l (suc m)) (part-nil items lo hi g)
     go (inr g) rest = ap (λ (l : List Stretch). nth l (suc m)) (part-cons items lo hi g le) ∙ rest
 
-pub nth-part-at : (items : List ℕ) (hi m lo : ℕ) → hi ≤ length items → lo + 2 * m + 2 ≤ hi → nth (part items lo hi) m ≡ At (st (get_or items (lo + 2 * m) 0) (get_or items (lo + 2 * m + 1) 0))
+pub nth-part-at : (items : List ℕ) (hi m lo : ℕ) → hi ≤ length items → lo + 2 * m + 2 ≤ hi → nth (part items lo hi) m ≡ Some (st (get_or items (lo + 2 * m) 0) (get_or items (lo + 2 * m + 1) 0))
 nth-part-at items hi zero lo le h =
     let z : lo ≡ lo + 2 * 0 = omega arith in
-    ap (λ (l : List Stretch). nth l 0) (part-cons items lo hi (omega arith) le) ∙ ap (λ (i : ℕ). At (st (get_or items i 0) (get_or items (i + 1) 0))) z
+    ap (λ (l : List Stretch). nth l 0) (part-cons items lo hi (omega arith) le) ∙ ap (λ (i : ℕ). Some (st (get_or items i 0) (get_or items (i + 1) 0))) z
 nth-part-at items hi (suc m) lo le h =
     let z : lo + 2 + 2 * m ≡ lo + 2 * suc m = omega arith in
     ap (λ (l : List Stretch). nth l (suc m)) (part-cons items lo hi (omega arith) le)
-    ∙ (nth-part-at items hi m (lo + 2) le (omega arith) ∙ ap (λ (i : ℕ). At (st (get_or items i 0) (get_or items (i + 1) 0))) z)
+    ∙ (nth-part-at items hi m (lo + 2) le (omega arith) ∙ ap (λ (i : ℕ). Some (st (get_or items i 0) (get_or items (i + 1) 0))) z)
 
 module _ (items ends counts : List ℕ) (cut : miscut items ends ≡ false) (i lo hi m : ℕ)
     (is-lo : lo ≡ start_of ends i) (is-hi : hi ≡ get_or ends i 0) (is_m : m ≡ get_or counts i 0 - 1) where
@@ -51,7 +51,7 @@ module _ (items ends counts : List ℕ) (cut : miscut items ends ≡ false) (i l
   pub item-none : hi < lo + 2 * m + 2 → None ≡ nth (get_or (lists_of items ends) i []) (get_or counts i 0 - 1)
   item-none h = sym (nth-part-none items hi m lo inside h) ∙ named
 
-  pub item-there : lo + 2 * m + 2 ≤ hi → At (st (get_or items (lo + 2 * m) 0) (get_or items (lo + 2 * m + 1) 0)) ≡ nth (get_or (lists_of items ends) i []) (get_or counts i 0 - 1)
+  pub item-there : lo + 2 * m + 2 ≤ hi → Some (st (get_or items (lo + 2 * m) 0) (get_or items (lo + 2 * m + 1) 0)) ≡ nth (get_or (lists_of items ends) i []) (get_or counts i 0 - 1)
   item-there h = sym (nth-part-at items hi m lo inside h) ∙ named
 
   pub item-inside : lo + 2 * m + 2 ≤ hi → lo + 2 * m + 1 < length items

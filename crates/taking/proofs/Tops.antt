@@ -8,7 +8,7 @@ use native.Mathlib.Omega.{arith}
 use lib.ListN.{length, get_or, set, take, drop, length-set, drop_of_length-le}
 use lib.Seq.{drop-nil, length-take-le, get_or-take, take-set-lt, drop-set-lt}
 use Rattle.stretches.specs.Stretch.{Stretch, st}
-use Rattle.stretches.specs.Front.{Front, None, At, nth}
+use Rattle.stretches.specs.Front.{Front, None, Some, nth}
 use Rattle.stretches.specs.Taking.{Order, fronts, leads, top, top_index, join, span, one_more, advance}
 use Rattle.stretches.specs.Lent.{lists_of}
 use Rattle.stretches.proofs.Incomparable.{fine-few}
@@ -109,12 +109,12 @@ module _ (items ends counts : List ℕ) (room : length ends ≤ length counts) w
 -- ── An advance ──
 
 -- where there is a top, it is the item of its list; where there is none, its list is past the last
-top-at : (o : Order) (q : List Front) (y : Stretch) → top o q ≡ At y → (top_index o q < length q) × (get_or q (top_index o q) None ≡ At y)
+top-at : (o : Order) (q : List Front) (y : Stretch) → top o q ≡ Some y → (top_index o q < length q) × (get_or q (top_index o q) None ≡ Some y)
 top-at o [] y e = let z : ◌≡◌ {A = ℕ} 0 1 = cc in absurd (omega arith)
 top-at o (f ∷ fs) y e = go (leads o f (top o fs)) e (top-at o fs y)
   where
-    go : (v : Bool) → cond v f (top o fs) ≡ At y → (top o fs ≡ At y → (top_index o fs < length fs) × (get_or fs (top_index o fs) None ≡ At y))
-        → (cond v 0 (suc (top_index o fs)) < suc (length fs)) × (get_or (f ∷ fs) (cond v 0 (suc (top_index o fs))) None ≡ At y)
+    go : (v : Bool) → cond v f (top o fs) ≡ Some y → (top o fs ≡ Some y → (top_index o fs < length fs) × (get_or fs (top_index o fs) None ≡ Some y))
+        → (cond v 0 (suc (top_index o fs)) < suc (length fs)) × (get_or (f ∷ fs) (cond v 0 (suc (top_index o fs))) None ≡ Some y)
     go true p k = (omega arith, p)
     go false p k = (omega (arith, (k p).0), (k p).1)
 
@@ -137,7 +137,7 @@ more-past i [] h = refl
 more-past zero (k ∷ ks) h = absurd (omega arith)
 more-past (suc i) (k ∷ ks) h = ap (λ l. k ∷ l) (more-past i ks (omega arith))
 
-nth-short : (l : List Stretch) (m : ℕ) (y : Stretch) → nth l m ≡ At y → m < length l
+nth-short : (l : List Stretch) (m : ℕ) (y : Stretch) → nth l m ≡ Some y → m < length l
 nth-short [] zero y e = let z : ◌≡◌ {A = ℕ} 0 1 = cc in absurd (omega arith)
 nth-short [] (suc m) y e = let z : ◌≡◌ {A = ℕ} 0 1 = cc in absurd (omega arith)
 nth-short (x ∷ l) zero y e = omega arith
@@ -154,11 +154,11 @@ get_d-drop-front [] i f r e = let w : [] ≡ f ∷ r = sym (drop-nil i) ∙ e in
 get_d-drop-front (g ∷ q) zero f r e = cc
 get_d-drop-front (g ∷ q) (suc i) f r e = get_d-drop-front q i f r e
 
-pub front_at : (x : Item) → x.found ≡ true → front_of x ≡ At (st x.start x.end)
-front_at x e = ap (λ v. cond v (At (st x.start x.end)) None) e
+pub front_at : (x : Item) → x.found ≡ true → front_of x ≡ Some (st x.start x.end)
+front_at x e = ap (λ v. cond v (Some (st x.start x.end)) None) e
 
 pub front-none : (x : Item) → x.found ≡ false → front_of x ≡ None
-front-none x e = ap (λ v. cond v (At (st x.start x.end)) None) e
+front-none x e = ap (λ v. cond v (Some (st x.start x.end)) None) e
 
 module _ (b : Bool) (items ends counts : List ℕ) (l : Lent items ends counts) (t : Top) (w : Topped b (queue items ends counts) 0 t) where
   -- the top's list, and that its count is far from full

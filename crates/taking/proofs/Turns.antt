@@ -10,7 +10,7 @@ use lib.Seq.{length-take-le}
 use lib.Dec.{eqb}
 use borrow.Author.Tests.{eq-eqb, ne_eqb, eqb-true, not-false}
 use Rattle.stretches.specs.Stretch.{Stretch, st}
-use Rattle.stretches.specs.Front.{Front, None, At}
+use Rattle.stretches.specs.Front.{Front, None, Some}
 use Rattle.stretches.specs.Taking.{AnswerCounts, Order, fronts, top, span, contains, advance, starts_first, total, skip, is_top, again, shrink}
 use Rattle.stretches.specs.Lent.{pairs, lists_from, lists_of}
 use Rattle.meaning.specs.Refusals.{miscut_from, miscut}
@@ -86,7 +86,7 @@ module _ (b : Bool) (items ends : List ℕ) (c : Front) where
 -- ── Lines 6 to 11 of Algorithm 3 ──
 
 abbrev hand : Stretch → List ℕ → AnswerCounts
-hand c ks = record { answer = At c; counts = ks }
+hand c ks = record { answer = Some c; counts = ks }
 
 module _ (ls : List (List Stretch)) (c : Stretch) (ks : List ℕ) where
   shrink-top : (m : ℕ) → is_top (top starts_first (fronts ls ks)) c ≡ true → shrink m ls c ks ≡ hand c ks
@@ -101,9 +101,9 @@ module _ (ls : List (List Stretch)) (c : Stretch) (ks : List ℕ) where
       ap (λ v. cond v (hand c ks) (again (span (fronts ls (advance starts_first ls ks))) c (advance starts_first ls ks) (λ x. shrink m ls x (advance starts_first ls ks)))) e
       ∙ ap (λ (j : ℕ). again (span (fronts ls (advance starts_first ls ks))) c (advance starts_first ls ks) (λ x. shrink j ls x (advance starts_first ls ks))) z
 
-again-off : (g : Front) (c : Stretch) (ks : List ℕ) (f : Stretch → AnswerCounts) → contains (At c) g ≡ false → again g c ks f ≡ hand c ks
+again-off : (g : Front) (c : Stretch) (ks : List ℕ) (f : Stretch → AnswerCounts) → contains (Some c) g ≡ false → again g c ks f ≡ hand c ks
 again-off None c ks f e = refl
-again-off (At x) c ks f e = ap (λ v. cond v (f x) (hand c ks)) e
+again-off (Some x) c ks f e = ap (λ v. cond v (f x) (hand c ks)) e
 
 module _ (items ends : List ℕ) (c₀ : Stretch) where
   abbrev goal : List ℕ → AnswerCounts

@@ -4,7 +4,7 @@ use Rattle.std.specs.Prelude.{ℕ, true, false, cond, List, ◌++◌, length, dr
 use Rattle.std.proofs.Math.Option.{Option, none, some}
 use Rattle.stretches.specs.Stretch.{Stretch, Op, length_of}
 use Rattle.stretches.specs.Operators.{operator_of}
-use Rattle.stretches.specs.Front.{Front, None, At}
+use Rattle.stretches.specs.Front.{Front, None, Some}
 use Rattle.stretches.specs.Taking.{begun, taking}
 use Rattle.stretches.specs.Lent.{lists_of}
 use Rattle.stretches.specs.Taking as algorithm
@@ -22,7 +22,7 @@ taken_of op items ends p = taken_by (operator_of length_of op 0) (lists_of items
 -- an answer, or "none"
 abbrev pub given : Front → Taken
 given None = record { number = 0; found = false; start = 0; end = 0 }
-given (At x) = record { number = 0; found = true; start = x.start; end = x.end }
+given (Some x) = record { number = 0; found = true; start = x.start; end = x.end }
 
 -- a refusal returns its number and no answer
 abbrev pub not_taken : ℕ → Taken

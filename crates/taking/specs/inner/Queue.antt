@@ -1,7 +1,7 @@
 -- The queue of the taking call as the code keeps it: what the contracts of private functions cite. Assumes nothing.
 use Rattle.std.specs.Prelude.{ℕ, ◌+◌, ◌≤◌, ◌≡◌, Bool, true, false, cond, List, length, take, drop}
 use Rattle.stretches.specs.Stretch.{st, Op, Or, And}
-use Rattle.stretches.specs.Front.{Front, None, At}
+use Rattle.stretches.specs.Front.{Front, None, Some}
 use Rattle.stretches.specs.Taking.{Order, ends_first, starts_first, fronts, leads, top, top_index, span}
 use Rattle.stretches.specs.Lent.{lists_of}
 use Rattle.stretches.specs.Taking as taking
@@ -11,7 +11,7 @@ use Rattle.taking.specs.declared.queue.Top.{Top}
 
 -- an item, or the end mark
 abbrev pub front_of : Item → Front
-front_of x = cond x.found (At (st x.start x.end)) None
+front_of x = cond x.found (Some (st x.start x.end)) None
 
 -- the algorithms' order, view and operator: or's go by the ends, and's by the starts
 abbrev pub order_of : Bool → Order
