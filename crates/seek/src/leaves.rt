@@ -25,11 +25,10 @@ pub(crate) fn seek_row(rows: &Nodes, words: &[u64], v: usize, t: u32) -> Front
     requires { v < 32 }
     ensures { RowFound words.now (first_at rows.now v) (second_at rows.now v) t result }
 {
-    let f = row_search::next(words, rows[v].first, rows[v].second, t as usize);
-    if f.hit {
-        return at_line(f.line);
+    match row_search::next(words, rows[v].first, rows[v].second, t as usize) {
+        Some(line) => at_line(line),
+        None => none(),
     }
-    none()
 }
 
 fn hint_of(x: usize) -> u32 {
