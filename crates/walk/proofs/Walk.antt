@@ -17,7 +17,7 @@ use Rattle.stretches.proofs.Filling.{drop-step, Partly, partly_more, partly-done
 use Rattle.seek.specs.declared.Front.{Front}
 use Rattle.seek.specs.Source.{Source, Good}
 use Rattle.seek.specs.First.{Ready, FirstOf}
-use Rattle.seek.proofs.State.{ready-none}
+use Rattle.seek.proofs.Keeping.{ready-none}
 use Rattle.seek.proofs.Ahead.{rest, step-ready, step-none, step-some}
 use Rattle.walk.specs.declared.Walked.{Walked}
 use Rattle.walk.specs.Filling.{Filling, FillAll}
