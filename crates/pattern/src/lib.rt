@@ -33,7 +33,26 @@ pub enum Refusal {
     Deep,
 }
 
-// What has been read of a symbol, and the number of trees still to come, the present one counted.
+// The number of a symbol's kind, and its numbers, 0 for those that it has not.
+#[derive(Clone, Copy)]
+struct Symbol {
+    pub kind: usize,
+    pub first: usize,
+    pub second: usize,
+    pub third: usize,
+}
+
+// Where a number of a symbol stands: the kind, the number's place, the numbers before it; and how many trees are still to come, the present one counted.
+#[derive(Clone, Copy)]
+struct Slot {
+    pub kind: usize,
+    pub field: usize,
+    pub first: usize,
+    pub second: usize,
+    pub need: usize,
+}
+
+// What has been read of a symbol, and the number of trees still to come.
 #[derive(Clone, Copy)]
 enum State {
     // letters: of a row's word, the first so many
@@ -43,46 +62,17 @@ enum State {
         need: usize,
     },
     // a word, whole fields, and a comma
-    Field {
-        kind: usize,
-        field: usize,
-        first: usize,
-        second: usize,
-        need: usize,
-    },
-    // and digits
-    Digits {
-        kind: usize,
-        field: usize,
-        first: usize,
-        second: usize,
-        value: usize,
-        need: usize,
-    },
+    Field(Slot),
+    // and digits of a value
+    Digits(Slot, usize),
 }
 
-// The numbers of a symbol, 0 for those that it has not.
-#[derive(Clone, Copy)]
-struct Values {
-    pub first: usize,
-    pub second: usize,
-    pub third: usize,
-}
-
-// What a byte does to a state.
+// What a byte does to a state that goes on.
 #[derive(Clone, Copy)]
 enum Step {
-    // no pattern goes on so
-    Dead,
     Within(State),
     // the comma after a whole symbol
-    Closed {
-        kind: usize,
-        first: usize,
-        second: usize,
-        third: usize,
-        next: State,
-    },
+    Closed(Symbol, State),
 }
 
 // The symbols of a text, of which at most NODES are kept.
