@@ -6,8 +6,8 @@ use mathlib.Core.Logic.{◌⊎◌, inl, inr}
 use mathlib.Core.Bool.{Bool, true, false, cond, ◌||◌}
 use mathlib.Core.List.{List, [], ◌∷◌, ◌++◌, append-nil, append_assoc}
 use lib.ListN.{length, get_or, set, take, drop, length-append, length-set, length-drop}
-use lib.Seq.{sets, length-sets, set_out, take_all, take-append-le, take-suc-set, take-nil, length-take-le, sets-eq}
-use Rattle.std.proofs.lemmas.List.{take-append-drop, drop-drop}
+use lib.Seq.{sets, length-sets, set_out, take_all, take-append-le, take-suc-set, take-nil, length-take-le}
+use Rattle.std.proofs.lemmas.List.{take-append-drop}
 use lib.Dec.{eqb}
 use borrow.Rule.Slice.PartMut.{put_mid}
 use Rattle.std.specs.List.{position_or_len}
@@ -15,7 +15,7 @@ use Rattle.std.specs.Prelude.{◌==◌, not, position, None, Some}
 use Rattle.std.proofs.lemmas.Grind.{common_steps}
 use Rattle.std.proofs.lemmas.List.Quantifiers.{position-Some}
 use native.Mathlib.Omega.{arith}
-use Rattle.basics.proofs.Basics.{cases, le-or-lt}
+use Rattle.basics.proofs.Basics.{cases, le-or-lt, put_sets}
 use Rattle.input.specs.declared.Intake.{Intake}
 use Rattle.input.specs.Input.{pattern_of, log_of, feed_in, pattern_part, log_part, Kept, TakenIn, Holds, Keeps}
 
@@ -86,7 +86,7 @@ sets_fit a l i n m p q = pick (le-or-lt (length l) i)
     pick (inr h) =
         let z : n ≡ i = omega arith in
         let w : length (take m a) ≡ m = length-take-le m a (omega arith) in
-        rw z (sym (sets-eq (take m a) l i (omega arith) ∙ rw w (simp (drop-drop, append_assoc))) ∙ sets_cut a l i m (omega arith))
+        rw z (put_sets l (take m a) i m (sym w) (omega arith) ∙ sets_cut a l i m (omega arith))
 
 -- a buffer that holds the bytes so far holds those added too
 holds_more : (added held buffer : List ℕ) (used : ℕ) → used ≡ min (length held) (length buffer) → take used buffer ≡ take (length buffer) held
