@@ -37,7 +37,7 @@ fn through(words: &[u64], p: usize) -> usize
     let h = half(words.len());
     let k = p / 64;
     if k < h {
-        (words[h + k] % 65536) as usize + row_search::count(words, 0, h, p - p % 64, p)
+        (words[h + k] % 65536) as usize + marks_in(words[k] << (63 - p % 64))
     } else {
         0
     }
