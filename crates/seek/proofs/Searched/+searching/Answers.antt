@@ -3,18 +3,18 @@ use borrow.Author.Rules.{rules}
 use native.Mathlib.Omega.{arith}
 use Rattle.seek.proofs.Turns.{or-start, or_turn, or-end, span-start, span-turn, span-gone, span-end, chain-gone, chain-start, chain-turn, chain-stop, chain-break, chain-end, test-max, test-alone, test-holder, test-inner, filter-gone, filter-done, look_none}
 use mathlib.Core.Path.{sym, ◌∙◌, refl}
-use Rattle.seek.proofs.Reaching.{reach-start, reach_here, reach-gone, reach-back, reach-turn, reach-out}
+use Rattle.seek.proofs.Reaching.{reach-start, reach_here, reach-gone, reach-turn, reach-out}
 use Rattle.stretches.proofs.Table.{stop-most}
 use Rattle.seek.proofs.Shapes.{no-chain}
-use Rattle.seek.proofs.Searches.{advance-start, advance-gone, advance-past, advance-good, advance-back, advance-turn, advance-out}
+use Rattle.seek.proofs.Searches.{advance-start, advance-last, advance-good, advance-back, advance-turn, advance-out}
 use mathlib.Core.Logic.{inl, inr, ⊎_elim}
-use Rattle.seek.proofs.State.{by_row_lem, by-list, by-none, stored, served}
-use Rattle.seek.proofs.machine.+searching.Goals as goal
+use Rattle.seek.proofs.Keeping.{by_row_lem, by-list, by-none, stored, served}
+use Rattle.seek.proofs.Searched.+searching.Goals as goal
 
 -- ── `seek_or` ──
 
 pub seek_or-loop-c-init : goal.seek_or-loop-c-init
-seek_or-loop-c-init t c = (or-start (omega (arith, c.requires)) c.none-best.ensures, omega arith)
+seek_or-loop-c-init t c = (or-start (omega (arith, c.requires)) refl, omega arith)
 
 pub seek_or-loop-c-preserved : goal.seek_or-loop-c-preserved
 seek_or-loop-c-preserved t c = (or_turn (omega (arith, c.requires)) c.loop-c.invariant.0 (omega (arith, c.stop_of-stop.ensures.value)) c.seek-f.ensures c.better-best.ensures c.next_of-c.ensures.value, omega (arith, c.next_of-c.ensures.lower_bound.0 (omega arith)))
@@ -28,33 +28,33 @@ pub span-loop-c-init : goal.span-loop-c-init
 span-loop-c-init t c = (span-start c.requires.0 c.requires.1, omega arith)
 
 pub span-returns-then-f-ge-NONE : goal.span-returns-then-f-ge-NONE
-span-returns-then-f-ge-NONE t c = λ k. span-gone c.requires.0 c.loop-c.invariant.0 (omega (arith, c.stop_of-stop.ensures.value)) c.seek-f.ensures c.if-f-ge-NONE.true c.none.ensures k
+span-returns-then-f-ge-NONE t c = λ k. span-gone c.requires.0 c.loop-c.invariant.0 (omega (arith, c.stop_of-stop.ensures.value)) c.seek-f.ensures c.if-f-ge-NONE.true refl k
 
 pub span-loop-c-preserved : goal.span-loop-c-preserved
 span-loop-c-preserved t c = (span-turn c.requires.0 c.loop-c.invariant.0 (omega (arith, c.stop_of-stop.ensures.value)) c.seek-f.ensures c.if-f-ge-NONE.false c.least-s.ensures c.most-e.ensures c.next_of-c.ensures.value, omega (arith, c.next_of-c.ensures.lower_bound.0 (omega arith)))
 
 pub span-returns : goal.span-returns
-span-returns t c = λ k. span-end c.loop-c.invariant.0 (omega (arith, c.stop_of-stop.ensures.value)) c.at.ensures k
+span-returns t c = λ k. span-end c.loop-c.invariant.0 (omega (arith, c.stop_of-stop.ensures.value)) refl k
 
 -- ── `chain` ──
 
-pub chain-returns-then-s-ge-NONE : goal.chain-returns-then-s-ge-NONE
-chain-returns-then-s-ge-NONE t c = λ k. chain-gone c.requires.0 c.requires.1 c.seek-a.ensures c.if-s-ge-NONE.true c.none.ensures k
+pub chain-returns-then-a-ge-NONE : goal.chain-returns-then-a-ge-NONE
+chain-returns-then-a-ge-NONE t c = λ k. chain-gone c.requires.0 c.requires.1 c.seek-a.ensures c.if-a-ge-NONE.true refl k
 
 pub chain-loop-c-init : goal.chain-loop-c-init
 chain-loop-c-init t c = (chain-start c.next_of-c.ensures.value, omega (arith, c.next_of-c.ensures.lower_bound.0 (omega arith)))
 
 pub chain-returns-then-f-ge-NONE : goal.chain-returns-then-f-ge-NONE
-chain-returns-then-f-ge-NONE t c = λ k. chain-stop c.requires.0 c.requires.1 c.seek-a.ensures c.if-s-ge-NONE.false c.loop-c.invariant.0 k (omega (arith, c.stop_of-stop.ensures.value)) c.past-to.ensures c.seek-f.ensures c.if-f-ge-NONE.true c.none-then-f-ge-NONE.ensures
+chain-returns-then-f-ge-NONE t c = λ k. chain-stop c.requires.0 c.requires.1 c.seek-a.ensures c.if-a-ge-NONE.false c.loop-c.invariant.0 k (omega (arith, c.stop_of-stop.ensures.value)) c.past-to.ensures c.seek-f.ensures c.if-f-ge-NONE.true refl
 
 pub chain-returns-then-breaks : goal.chain-returns-then-breaks
-chain-returns-then-breaks t c = λ k. chain-break c.requires.0 c.requires.1 c.seek-a.ensures c.if-s-ge-NONE.false c.loop-c.invariant.0 k (omega (arith, c.stop_of-stop.ensures.value)) c.past-to.ensures c.seek-f.ensures c.if-f-ge-NONE.false (sym c.breaks.ensures ∙ c.if-breaks.true) c.at.ensures
+chain-returns-then-breaks t c = λ k. chain-break c.requires.0 c.requires.1 c.seek-a.ensures c.if-a-ge-NONE.false c.loop-c.invariant.0 k (omega (arith, c.stop_of-stop.ensures.value)) c.past-to.ensures c.seek-f.ensures c.if-f-ge-NONE.false (sym c.breaks.ensures ∙ c.if-breaks.true) refl
 
 pub chain-loop-c-preserved : goal.chain-loop-c-preserved
 chain-loop-c-preserved t c = (chain-turn c.requires.0 c.loop-c.invariant.0 (omega (arith, c.stop_of-stop.ensures.value)) c.past-to.ensures c.seek-f.ensures c.if-f-ge-NONE.false (sym c.breaks.ensures ∙ c.if-breaks.false) c.next_of-c-in-loop-c.ensures.value, omega (arith, c.next_of-c-in-loop-c.ensures.lower_bound.0 (omega arith)))
 
 pub chain-returns : goal.chain-returns
-chain-returns t c = λ k. chain-end c.requires.0 c.requires.1 c.seek-a.ensures c.if-s-ge-NONE.false c.loop-c.invariant.0 k (omega (arith, c.stop_of-stop.ensures.value)) c.at-2.ensures
+chain-returns t c = λ k. chain-end c.requires.0 c.requires.1 c.seek-a.ensures c.if-a-ge-NONE.false c.loop-c.invariant.0 k (omega (arith, c.stop_of-stop.ensures.value)) refl
 
 -- ── `reach` ──
 
@@ -64,17 +64,14 @@ reach-loop-from-init t c = reach-start (omega (arith, c.requires)) c.resume-from
 pub reach-returns-then-e-b : goal.reach-returns-then-e-b
 reach-returns-then-e-b t c = reach_here (omega (arith, c.requires)) c.loop-from.invariant c.seek-b.ensures c.if-e-b.true c.put_passed.ensures
 
-pub reach-returns-then-s-ge-NONE : goal.reach-returns-then-s-ge-NONE
-reach-returns-then-s-ge-NONE t c = reach-gone (omega (arith, c.requires)) c.loop-from.invariant c.seek-b.ensures c.if-s-ge-NONE.true c.none.ensures
-
-pub reach-returns-then-s-from : goal.reach-returns-then-s-from
-reach-returns-then-s-from t c = reach-back (omega (arith, c.requires)) c.loop-from.invariant c.seek-b.ensures c.if-s-ge-NONE.false c.if-s-from.true
+pub reach-returns-then-b-ge-NONE : goal.reach-returns-then-b-ge-NONE
+reach-returns-then-b-ge-NONE t c = reach-gone (omega (arith, c.requires)) c.loop-from.invariant c.seek-b.ensures c.then-b-ge-NONE.either refl
 
 pub reach-loop-from-preserved : goal.reach-loop-from-preserved
-reach-loop-from-preserved t c = reach-turn (omega (arith, c.requires)) c.loop-from.invariant c.seek-b.ensures c.if-e-b.false c.if-s-ge-NONE.false
+reach-loop-from-preserved t c = reach-turn (omega (arith, c.requires)) c.loop-from.invariant c.seek-b.ensures c.if-e-b.false (omega arith)
 
 pub reach-returns : goal.reach-returns
-reach-returns t c = reach-out (omega (arith, c.requires)) c.loop-from.invariant c.loop-from-test.false c.none-2.ensures
+reach-returns t c = reach-out (omega (arith, c.requires)) c.loop-from.invariant c.loop-from-test.false refl
 
 -- ── `passes` ──
 
@@ -99,21 +96,21 @@ passes-returns t c = test-inner c.requires.0 c.requires.1 c.if-kind-eq-MAX.false
 -- ── `filter` ──
 
 pub filter-seek-a-requires : goal.filter-seek-a-requires
-filter-seek-a-requires t c = (search rules, omega (arith, c.requires, stop-most c.args.rows.now c.args.v))
+filter-seek-a-requires t c = (search rules, omega (arith, c.requires, stop-most c.args.self.now.rows.now c.args.v))
 
 pub filter-returns-then-a-ge-NONE : goal.filter-returns-then-a-ge-NONE
-filter-returns-then-a-ge-NONE t c = λ k. filter-gone c.requires.0 c.requires.1 c.seek-a.ensures c.if-a-ge-NONE.true c.none.ensures k
+filter-returns-then-a-ge-NONE t c = λ k. filter-gone c.requires.0 c.requires.1 c.seek-a.ensures c.if-a-ge-NONE.true refl k
 
 pub filter-returns-then-passes : goal.filter-returns-then-passes
 filter-returns-then-passes t c = λ k. filter-done c.requires.0 c.requires.1 c.seek-a.ensures c.if-a-ge-NONE.false c.passes.ensures c.if-passes.true refl k
 
 pub filter-returns : goal.filter-returns
-filter-returns t c = λ k. filter-done c.requires.0 c.requires.1 c.seek-a.ensures c.if-a-ge-NONE.false c.passes.ensures c.if-passes.false c.at.ensures k
+filter-returns t c = λ k. filter-done c.requires.0 c.requires.1 c.seek-a.ensures c.if-a-ge-NONE.false c.passes.ensures c.if-passes.false refl k
 
 -- ── `look_at` ──
 
 pub look_at-returns-then-stop_of-v : goal.look_at-returns-then-stop_of-v
-look_at-returns-then-stop_of-v t c = look_none (omega (arith, c.stop_of.ensures.value)) c.none.ensures
+look_at-returns-then-stop_of-v t c = look_none (omega (arith, c.stop_of.ensures.value)) refl
 
 pub look_at-returns-then-kind-eq-AND : goal.look_at-returns-then-kind-eq-AND
 look_at-returns-then-kind-eq-AND t c = c.span.ensures c.if-kind-eq-AND.true
@@ -128,22 +125,19 @@ look_at-returns t c = let no = no-chain _ (sym c.is_chain.ensures ∙ c.if-is_ch
 -- ── `advance` ──
 
 pub advance-loop-from-init : goal.advance-loop-from-init
-advance-loop-from-init t c = advance-start c.none-best.ensures
+advance-loop-from-init t c = advance-start refl
 
-pub advance-returns-then-s-ge-NONE : goal.advance-returns-then-s-ge-NONE
-advance-returns-then-s-ge-NONE t c = λ k. advance-gone c.requires.0 c.requires.1 c.loop-from.invariant c.look_at-a.ensures c.if-s-ge-NONE.true k
-
-pub advance-returns-then-best-a : goal.advance-returns-then-best-a
-advance-returns-then-best-a t c = λ k. advance-past c.requires.0 c.requires.1 c.loop-from.invariant c.look_at-a.ensures c.if-best-a.true k
+pub advance-returns-then-a-ge-NONE : goal.advance-returns-then-a-ge-NONE
+advance-returns-then-a-ge-NONE t c = λ k. advance-last c.requires.0 c.requires.1 c.loop-from.invariant c.look_at-a.ensures c.then-a-ge-NONE.either k
 
 pub advance-returns-then-settles : goal.advance-returns-then-settles
 advance-returns-then-settles t c = λ k. let s = c.settles.ensures.0 c.if-settles.true in advance-good c.requires.0 c.requires.1 c.loop-from.invariant c.look_at-a.ensures s.0 s.1 k
 
-pub advance-returns-then-s-from : goal.advance-returns-then-s-from
-advance-returns-then-s-from t c = λ k. advance-back c.requires.0 c.requires.1 c.loop-from.invariant c.look_at-a.ensures c.if-s-ge-NONE.false (c.settles.ensures.1 c.if-settles.false) c.if-s-from.true k
+pub advance-returns-then-a-from : goal.advance-returns-then-a-from
+advance-returns-then-a-from t c = λ k. advance-back c.requires.0 c.requires.1 c.loop-from.invariant c.look_at-a.ensures (omega arith) (c.settles.ensures.1 c.if-settles.false) c.if-a-from.true k
 
 pub advance-loop-from-preserved : goal.advance-loop-from-preserved
-advance-loop-from-preserved t c = advance-turn c.requires.0 c.requires.1 c.loop-from.invariant c.look_at-a.ensures c.if-s-ge-NONE.false (c.settles.ensures.1 c.if-settles.false) c.if-best-a.false c.better-best.ensures
+advance-loop-from-preserved t c = advance-turn c.requires.0 c.requires.1 c.loop-from.invariant c.look_at-a.ensures (omega arith) (c.settles.ensures.1 c.if-settles.false) (omega arith) c.better-best.ensures
 
 pub advance-returns : goal.advance-returns
 advance-returns t c = λ k. advance-out c.requires.0 c.requires.1 c.loop-from.invariant c.loop-from-test.false k
@@ -166,7 +160,7 @@ pub fresh-returns-then-has_looks : goal.fresh-returns-then-has_looks
 fresh-returns-then-has_looks t c = c.advance.ensures (c.has_looks.ensures.0 c.if-has_looks.true).1
 
 pub fresh-returns : goal.fresh-returns
-fresh-returns t c = by-none (omega (arith, c.requires)) (⊎_elim (λ h. inl (omega (arith, h, c.if-kind-eq-OR.false))) (λ h. inr h) (c.has_looks.ensures.1 c.if-has_looks.false)) c.if-kind-eq-MARKS.false c.if-kind-eq-LIST.false c.none.ensures
+fresh-returns t c = by-none (omega (arith, c.requires)) (⊎_elim (λ h. inl (omega (arith, h, c.if-kind-eq-OR.false))) (λ h. inr h) (c.has_looks.ensures.1 c.if-has_looks.false)) c.if-kind-eq-MARKS.false c.if-kind-eq-LIST.false refl
 
 -- ── `renew` ──
 
@@ -175,11 +169,11 @@ renew-returns t c = stored (omega (arith, c.requires)) c.fresh-r.ensures c.put_f
 
 -- ── `seek` ──
 
-pub seek-overflow_sub-st : goal.seek-overflow_sub-st
-seek-overflow_sub-st t c = omega (arith, (c.serves.ensures c.if-serves.true).live)
+pub seek-front-requires : goal.seek-front-requires
+seek-front-requires t c = omega (arith, (c.serves.ensures c.if-serves.true).live)
 
 pub seek-returns-then-serves : goal.seek-returns-then-serves
-seek-returns-then-serves t c = served (omega (arith, c.requires)) (c.serves.ensures c.if-serves.true) c.at.ensures
+seek-returns-then-serves t c = served (omega (arith, c.requires)) (c.serves.ensures c.if-serves.true) c.front.ensures
 
 pub seek-returns : goal.seek-returns
 seek-returns t c = c.renew.ensures
