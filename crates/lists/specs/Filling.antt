@@ -1,7 +1,8 @@
 -- The filling call over lent lists: what it returns, and what it leaves in every cell: docs/FORMATS.md, "Lent lists".
 -- Assumes nothing.
 use Rattle.std.specs.Prelude.{ℕ, false, cond, List, [], length, eqb}
-use Rattle.stretches.specs.Stretch.{Stretch, length_of}
+use Rattle.stretches.specs.declared.Stretch.{Stretch}
+use Rattle.stretches.specs.Stretch.{length_of}
 use Rattle.stretches.specs.Operators.{operator_of, apply}
 use Rattle.stretches.specs.Filling.{written, filled, more_after}
 use Rattle.stretches.specs.Lent.{lists_of}

@@ -1,7 +1,7 @@
 -- The list of a pattern in a log, and what the filling call over them returns: docs/FORMATS.md, "Finding".
 -- Assumes nothing.
 use Rattle.std.specs.Prelude.{ℕ, cond, List, [], length, eqb}
-use Rattle.stretches.specs.Stretch.{Stretch}
+use Rattle.stretches.specs.declared.Stretch.{Stretch}
 use Rattle.stretches.specs.Filling.{written, more_after}
 use Rattle.pattern.specs.Reading.{Outcome, Accepts, Refuses, outcome_of}
 use Rattle.meaning.specs.Meaning.{answers_in, Local}

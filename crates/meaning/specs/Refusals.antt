@@ -2,7 +2,7 @@
 -- A refusal has its number and a place, 0 but for 3; number 0: accepted. No refusal has the number 9.
 -- Assumes nothing.
 use Rattle.std.specs.Prelude.{ℕ, ◌%◌, Bool, false, not, cond, ◌&&◌, ◌||◌, List, [], ◌∷◌, length, leb, ltb, eqb}
-use Rattle.stretches.specs.Stretch.{Stretch}
+use Rattle.stretches.specs.declared.Stretch.{Stretch}
 use Rattle.stretches.specs.Lent.{lists_of}
 use Rattle.pattern.specs.Reading.{Outcome, outcome_of, number_in, place_in}
 

@@ -1,48 +1,82 @@
--- Columns of 32 numbers, and five of them joined by placing one after the other over zeros.
--- Assumes nothing.
-use Prim.Native.Nat.{ℕ, suc, ◌+◌, ◌-◌, ◌≤◌, ◌<◌}
+-- A pattern's nodes by its symbols and the sizes of its subtrees: what five columns of numbers have at each place. Assumes nothing.
+use Prim.Native.Nat.{ℕ, zero, suc, ◌-◌, ◌≤◌, ◌<◌}
 use mathlib.Core.Path.{◌≡◌, refl, sym, ap, ap₂, ◌∙◌}
-use mathlib.Core.List.{List, [], ◌++◌, map, append-nil, append_assoc}
-use lib.ListN.{length, get_or, take, drop, set, replicate, length-append, length-replicate, length-map}
-use lib.Seq.{paste, paste-suc, length-paste, take_at, drop_at, take_all}
+use mathlib.Core.List.{List, [], ◌∷◌, ◌++◌, map, map-append}
+use lib.ListN.{length, get_or, replicate, length-append, length-replicate, length-map}
 use native.Mathlib.Omega.{arith}
-use Rattle.pattern.specs.Kinds.{Symbol}
-use Rattle.pattern.specs.Rows.{padded}
+use Rattle.std.proofs.lemmas.List.{ext_get_or}
+use Rattle.stretches.specs.declared.Node as row
+use Rattle.stretches.specs.Table.{no_node, node_at}
+use Rattle.pattern.specs.Kinds.{Symbol, kind_of, first_of, second_of, third_of}
+use Rattle.pattern.specs.Pattern.{Pattern, Node, Patterns, Nil, Cons, nodes, preorder, preorders, parts, parts_of, sizes, sizes_of}
+use Rattle.pattern.specs.Rows.{padded, node_of, rows_of}
+use Rattle.pattern.specs.Answer.{table}
+use Rattle.pattern.specs.declared.Table.{Table}
+use Rattle.pattern.specs.inner.Nodes.{node_in, Tabled}
+use Rattle.pattern.proofs.Forests.{length-parts}
 
--- a padded list is 32 long
-pub length-padded : (l : List ℕ) → length l ≤ 32 → length (padded l) ≡ 32
-length-padded l h = omega (arith, length-append l (replicate {A = ℕ} (32 - length l) 0), length-replicate {A = ℕ} (32 - length l) 0)
+-- ── Symbols and sizes of the parts ──
 
--- so is a column of symbols
-pub length-column : (f : Symbol → ℕ) (hs : List Symbol) → length hs ≤ 32 → length (padded (map f hs)) ≡ 32
-length-column f hs h = length-padded (map f hs) (omega (arith, length-map hs f))
+abbrev top : Pattern → Symbol
+top (Node h ps) = h
 
--- a column placed over the next 32 numbers
-pub paste-next : (d p q z c : List ℕ) (n : ℕ) → d ≡ p ++ (q ++ z) → length p ≡ n → length q ≡ 32 → length c ≡ 32 → paste d n c 32 ≡ p ++ (c ++ z)
-paste-next d p q z c n e lp lq lc =
-    let l : length (p ++ q) ≡ n + 32 = omega (arith, length-append p q) in
-    ap₂ (λ (x y : List ℕ). (x ++ y) ++ drop (n + 32) d) (ap (take n) e ∙ take_at p (q ++ z) n lp) (take_all 32 c (omega arith))
-    ∙ (ap (λ (y : List ℕ). (p ++ c) ++ y) (ap (drop (n + 32)) (e ∙ sym (append_assoc p q z)) ∙ drop_at (p ++ q) z (n + 32) l) ∙ append_assoc p c z)
+mutual
+  preorder-parts : (p : Pattern) → preorder p ≡ map top (parts p)
+  preorder-parts (Node h ps) = ap (λ (l : List Symbol). h ∷ l) (preorders-parts ps)
 
--- five columns placed over zeros
-pub joined-columns : (k s f g h d1 d2 d3 d4 d5 : List ℕ) → length k ≡ 32 → length s ≡ 32 → length f ≡ 32 → length g ≡ 32 → length h ≡ 32
-    → d1 ≡ paste (replicate 160 0) 0 k 32 → d2 ≡ paste d1 32 s 32 → d3 ≡ paste d2 64 f 32 → d4 ≡ paste d3 96 g 32 → d5 ≡ paste d4 128 h 32 → d5 ≡ k ++ (s ++ (f ++ (g ++ h)))
-joined-columns k s f g h d1 d2 d3 d4 d5 lk ls lf lg lh e1 e2 e3 e4 e5 =
-    let r1 : d1 ≡ k ++ replicate 128 0 = e1 ∙ paste-next (replicate 160 0) [] (replicate 32 0) (replicate 128 0) k 0 refl refl refl lk in
-    let r2 : d2 ≡ (k ++ s) ++ replicate 96 0 = e2 ∙ (paste-next d1 k (replicate 32 0) (replicate 96 0) s 32 r1 lk refl ls ∙ sym (append_assoc k s (replicate 96 0))) in
-    let l2 : length (k ++ s) ≡ 64 = omega (arith, length-append k s) in
-    let r3 : d3 ≡ ((k ++ s) ++ f) ++ replicate 64 0 = e3 ∙ (paste-next d2 (k ++ s) (replicate 32 0) (replicate 64 0) f 64 r2 l2 refl lf ∙ sym (append_assoc (k ++ s) f (replicate 64 0))) in
-    let l3 : length ((k ++ s) ++ f) ≡ 96 = omega (arith, length-append (k ++ s) f) in
-    let r4 : d4 ≡ (((k ++ s) ++ f) ++ g) ++ replicate 32 0 = e4 ∙ (paste-next d3 ((k ++ s) ++ f) (replicate 32 0) (replicate 32 0) g 96 r3 l3 refl lg ∙ sym (append_assoc ((k ++ s) ++ f) g (replicate 32 0))) in
-    let l4 : length (((k ++ s) ++ f) ++ g) ≡ 128 = omega (arith, length-append ((k ++ s) ++ f) g) in
-    e5 ∙ (paste-next d4 (((k ++ s) ++ f) ++ g) (replicate 32 0) [] h 128 (r4 ∙ ap (λ (x : List ℕ). (((k ++ s) ++ f) ++ g) ++ x) (sym (append-nil (replicate 32 0)))) l4 refl lh ∙ simp (append_assoc, append-nil))
+  preorders-parts : (ps : Patterns) → preorders ps ≡ map top (parts_of ps)
+  preorders-parts Nil = refl
+  preorders-parts (Cons p ps) = ap₂ (λ (k l : List Symbol). k ++ l) (preorder-parts p) (preorders-parts ps) ∙ sym (map-append top (parts p) (parts_of ps))
 
--- one number more of a column placed
-pub paste-turn : (l d c : List ℕ) (n i : ℕ) → l ≡ paste d n c i → n + i < length d → i < length c → set l (n + i) (get_or c i 0) ≡ paste d n c (i + 1)
-paste-turn l d c n i e h k = ap (λ (x : List ℕ). set x (n + i) (get_or c i 0)) e ∙ (paste-suc d n c i 0 h k ∙ ap (paste d n c) (let z : suc i ≡ i + 1 = omega arith in z))
+mutual
+  sizes-parts : (p : Pattern) → sizes p ≡ map nodes (parts p)
+  sizes-parts (Node h ps) = ap (λ (l : List ℕ). nodes (Node h ps) ∷ l) (sizes-of-parts ps)
 
--- a whole column placed
-pub paste-done : (l d c : List ℕ) (n i : ℕ) → l ≡ paste d n c i → i ≡ 32 → length d ≡ 160 → n ≤ 128 → length c ≡ 32 → (l ≡ paste d n c 32) × (length l ≡ 160)
-paste-done l d c n i e f h k j =
-    let q : l ≡ paste d n c 32 = e ∙ ap (paste d n c) f in
-    (q, ap length q ∙ (length-paste d n c 32 (omega arith) (omega arith) ∙ h))
+  sizes-of-parts : (ps : Patterns) → sizes_of ps ≡ map nodes (parts_of ps)
+  sizes-of-parts Nil = refl
+  sizes-of-parts (Cons p ps) = ap₂ (λ (k l : List ℕ). k ++ l) (sizes-parts p) (sizes-of-parts ps) ∙ sym (map-append nodes (parts p) (parts_of ps))
+
+-- ── Padding ──
+
+module _ {A : Type 0} (d : A) where
+  -- what is only the default reads as the default
+  get_or-defaults : (n v : ℕ) → get_or (replicate n d) v d ≡ d
+  get_or-defaults zero v = refl
+  get_or-defaults (suc n) zero = refl
+  get_or-defaults (suc n) (suc v) = get_or-defaults n v
+
+  -- behind a list too
+  get_or-padded : (l : List A) (n v : ℕ) → get_or (l ++ replicate n d) v d ≡ get_or l v d
+  get_or-padded [] n v = get_or-defaults n v
+  get_or-padded (x ∷ l) n zero = refl
+  get_or-padded (x ∷ l) n (suc v) = get_or-padded l n v
+
+-- ── Columns ──
+
+-- those of the parts have the parts' nodes
+columns-node : (ps : List Pattern) (v : ℕ) → node_in (map kind_of (map top ps)) (map nodes ps) (map first_of (map top ps)) (map second_of (map top ps)) (map third_of (map top ps)) v ≡ node_at (map node_of ps) v
+columns-node [] v = refl
+columns-node (Node h qs ∷ ps) zero = refl
+columns-node (p ∷ ps) (suc v) = columns-node ps v
+
+-- the table of a pattern's padded columns is its table
+pub tabled-is : (p : Pattern) (ks zs xs ys ts : List ℕ) (n : ℕ) (t : Table) → nodes p ≤ 32 → n ≡ nodes p → ks ≡ padded (map kind_of (preorder p)) → zs ≡ padded (sizes p) → xs ≡ padded (map first_of (preorder p))
+    → ys ≡ padded (map second_of (preorder p)) → ts ≡ padded (map third_of (preorder p)) → Tabled n ks zs xs ys ts t → t ≡ table p
+unfolding rows_of
+tabled-is p ks zs xs ys ts n t few en ek ez ex ey et tab = λ i. record { count = (tab.counted ∙ en) i; rows = rows i }
+  where
+    one : (f : Symbol → ℕ) (l : List ℕ) (v : ℕ) → l ≡ padded (map f (preorder p)) → get_or l v 0 ≡ get_or (map f (map top (parts p))) v 0
+    one f l v e = ap (λ (k : List ℕ). get_or k v 0) e ∙ (get_or-padded 0 (map f (preorder p)) (32 - length (map f (preorder p))) v ∙ ap (λ (k : List Symbol). get_or (map f k) v 0) (preorder-parts p))
+
+    size : (v : ℕ) → get_or zs v 0 ≡ get_or (map nodes (parts p)) v 0
+    size v = ap (λ (k : List ℕ). get_or k v 0) ez ∙ (get_or-padded 0 (sizes p) (32 - length (sizes p)) v ∙ ap (λ (k : List ℕ). get_or k v 0) (sizes-parts p))
+
+    each : (v : ℕ) → v < 32 → node_at t.rows v ≡ node_at (rows_of p) v
+    each v h = tab.each v h ∙ ((λ i. record { kind = one kind_of ks v ek i; size = size v i; first = one first_of xs v ex i; second = one second_of ys v ey i; third = one third_of ts v et i })
+        ∙ (columns-node (parts p) v ∙ sym (get_or-padded no_node (map node_of (parts p)) (32 - nodes p) v)))
+
+    long : length (rows_of p) ≡ 32
+    long = omega (arith, length-append (map node_of (parts p)) (replicate (32 - nodes p) no_node), length-replicate {A = row.Node} (32 - nodes p) no_node, length-map (parts p) node_of, length-parts p)
+
+    rows : t.rows ≡ rows_of p
+    rows = ext_get_or no_node t.rows (rows_of p) (tab.long ∙ sym long) (λ v h. each v (omega (arith, tab.long)))

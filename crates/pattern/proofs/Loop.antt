@@ -10,13 +10,15 @@ use lib.Seq.{drop-cons, take-suc, get_or-drop}
 use borrow.Author.Tests.{leb-true, ltb-false, lt-ltb}
 use native.Mathlib.Numerals.{add-one}
 use native.Mathlib.Omega.{arith}
+use Rattle.std.specs.Prelude.{Option, Some, None}
 use Rattle.pattern.specs.Kinds.{Symbol, kind_of, first_of, second_of, third_of, symbol, field_count, low, arity}
+use Rattle.pattern.specs.declared.Symbol as read
 use Rattle.pattern.specs.declared.State.{State}
 use Rattle.pattern.specs.declared.State.TheVariants.{Letters, Field, Digits}
 use Rattle.pattern.specs.declared.Scanned.{Scanned}
 use Rattle.pattern.specs.declared.Step.{Step}
-use Rattle.pattern.specs.declared.Step.TheVariants.{Dead, Within, Closed}
-use Rattle.pattern.specs.Automaton.{first_field, second_field, third_field, step, Scan, Stop, Whole, later, after, last, finish, go, scan}
+use Rattle.pattern.specs.declared.Step.TheVariants.{Within, Closed}
+use Rattle.pattern.specs.Automaton.{slot, coded, said, first_field, second_field, third_field, step, Scan, Stop, Whole, later, after, last, finish, go, scan}
 use Rattle.pattern.specs.Rows.{padded}
 use Rattle.pattern.specs.inner.Scanner.{Bounded, Written, Piece, start_after, final, end_of, put_at, Columns, Tells}
 use Rattle.basics.proofs.Basics.{cases}
@@ -127,30 +129,29 @@ bounded text ks xs ys zs count s i l v = go s v.held (omega (arith, v.needs, v.w
   where
     go : (s : State) → Held s → need s ≤ 40000 → Bounded 1000000 s
     go (Letters r m n) h y = (h.2, omega arith, omega (arith, h.1, word-short r), h.0)
-    go (Field k j a c n) h y = (h.1, omega arith, omega (arith, h.0.field, few-fields k))
-    go (Digits k j a c v n) h y =
-        let f = h.0 in
-        let b : v ≤ 65535 = omega (arith, h.2.below, range-sound k j) in
-        (h.1, omega arith, b, first_small k j a c v f.earlier b, omega (arith, f.field, few-fields k))
+    go (Field f) h y = (h.1, omega arith, omega (arith, h.0.field, few-fields f.kind))
+    go (Digits f v) h y =
+        let b : v ≤ 65535 = omega (arith, h.2.below, range-sound f.kind f.field) in
+        (h.1, omega arith, b, first_small f.kind f.field f.first f.second v h.0.earlier b, omega (arith, h.0.field, few-fields f.kind))
 
 module _ (text ks xs ys zs : List ℕ) (count : ℕ) (s : State) (i b : ℕ) (v : Scanning text ks xs ys zs count s i) (l : i < length text) (e : b ≡ get_or text i 0) where
-  on_step : (t : Step) → t ≡ step s b → scan text (Letters 0 0 1) ≡ resume i v.done (go (scan (drop (i + 1) text)) t)
+  on_step : (t : Option Step) → t ≡ step s b → scan text (Letters 0 0 1) ≡ resume i v.done (go (scan (drop (i + 1) text)) t)
   on_step t q = v.rest ∙ ap (resume i v.done) (scan-drop text i s l ∙ ap (go (scan (drop (i + 1) text))) (ap (step s) (sym e) ∙ sym q))
 
-  after-step : (t : Step) → t ≡ step s b → After s b t
+  after-step : (t : Option Step) → t ≡ step s b → After s b t
   after-step t q = subst (After s b) (sym q) (step_after s b v.held)
 
-  pub turn-dead : (t : Step) → t ≡ step s b → t ≡ Dead → scan text (Letters 0 0 1) ≡ Stop i
-  turn-dead t q d = on_step t q ∙ (ap (λ (x : Step). resume i v.done (go (scan (drop (i + 1) text)) x)) d ∙ ap Stop (omega arith))
+  pub turn-dead : (t : Option Step) → t ≡ step s b → t ≡ None → scan text (Letters 0 0 1) ≡ Stop i
+  turn-dead t q d = on_step t q ∙ (ap (λ (x : Option Step). resume i v.done (go (scan (drop (i + 1) text)) x)) d ∙ ap Stop (omega arith))
 
   -- what the step did
-  pub went : (t : Step) (s' : State) → t ≡ step s b → t ≡ Within s' → Went s b s'
+  pub went : (t : Option Step) (s' : State) → t ≡ step s b → t ≡ Some (Within s') → Went s b s'
   went t s' q d = subst (After s b) d (after-step t q)
 
-  pub closed : (t : Step) (k a c d : ℕ) (s' : State) → t ≡ step s b → t ≡ Closed k a c d s' → Shut s b (symbol k a c d) s'
-  closed t k a c d s' q z = let g : Shut s b (symbol k a c d) s' × Named k a c d = subst (After s b) z (after-step t q) in g.0
+  pub closed : (t : Option Step) (h : read.Symbol) (s' : State) → t ≡ step s b → t ≡ Some (Closed h s') → Shut s b (said h) s'
+  closed t h s' q z = let g : Shut s b (said h) s' × Named h.kind h.first h.second h.third = subst (After s b) z (after-step t q) in g.0
 
-  pub turn-within : (t : Step) (s' : State) → t ≡ step s b → t ≡ Within s' → Scanning text ks xs ys zs count s' (i + 1)
+  pub turn-within : (t : Option Step) (s' : State) → t ≡ step s b → t ≡ Some (Within s') → Scanning text ks xs ys zs count s' (i + 1)
   turn-within t s' q d =
       let g = went t s' q d in
       record {
@@ -159,23 +160,23 @@ module _ (text ks xs ys zs : List ℕ) (count : ℕ) (s : State) (i b : ℕ) (v 
         few = omega (arith, v.few);
         held = g.held;
         needs = omega (arith, g.needs, v.needs);
-        rest = on_step t q ∙ (ap (λ (x : Step). resume i v.done (go (scan (drop (i + 1) text)) x)) d ∙ resume-later i v.done (scan (drop (i + 1) text) s'));
+        rest = on_step t q ∙ (ap (λ (x : Option Step). resume i v.done (go (scan (drop (i + 1) text)) x)) d ∙ resume-later i v.done (scan (drop (i + 1) text) s'));
         counted = v.counted;
         columns = v.columns;
       }
 
-  pub turn-closed : (t : Step) (k a c d : ℕ) (s' : State) → t ≡ step s b → t ≡ Closed k a c d s' → Scanning text (put_at ks count k) (put_at xs count a) (put_at ys count c) (put_at zs count d) (count + 1) s' (i + 1)
-  turn-closed t k a c d s' q z =
-      let g : Shut s b (symbol k a c d) s' × Named k a c d = subst (After s b) z (after-step t q) in
+  pub turn-closed : (t : Option Step) (h : read.Symbol) (s' : State) → t ≡ step s b → t ≡ Some (Closed h s') → Scanning text (put_at ks count h.kind) (put_at xs count h.first) (put_at ys count h.second) (put_at zs count h.third) (count + 1) s' (i + 1)
+  turn-closed t h s' q z =
+      let g : Shut s b (said h) s' × Named h.kind h.first h.second h.third = subst (After s b) z (after-step t q) in
       record {
-        done = v.done ++ (symbol k a c d ∷ []);
+        done = v.done ++ (said h ∷ []);
         within = omega arith;
         few = omega (arith, v.few);
         held = g.0.held;
-        needs = omega (arith, g.0.needs, v.needs, rank-small (symbol k a c d) g.0.ranged);
-        rest = on_step t q ∙ (ap (λ (x : Step). resume i v.done (go (scan (drop (i + 1) text)) x)) z ∙ resume-after i v.done (symbol k a c d) (scan (drop (i + 1) text) s'));
-        counted = omega (arith, v.counted, length-append v.done (symbol k a c d ∷ []));
-        columns = push v.done ks xs ys zs count k a c d v.counted g.1 v.columns;
+        needs = omega (arith, g.0.needs, v.needs, rank-small (said h) g.0.ranged);
+        rest = on_step t q ∙ (ap (λ (x : Option Step). resume i v.done (go (scan (drop (i + 1) text)) x)) z ∙ resume-after i v.done (said h) (scan (drop (i + 1) text) s'));
+        counted = omega (arith, v.counted, length-append v.done (said h ∷ []));
+        columns = push v.done ks xs ys zs count h.kind h.first h.second h.third v.counted g.1 v.columns;
       }
 
 -- ── The present word or number ──
@@ -223,44 +224,45 @@ pub record Ended (text ks xs ys zs : List ℕ) (count : ℕ) : Type 0 where
   pub columns : length symbols ≤ 32 → Columns symbols ks xs ys zs
 
 -- what the code makes of the end of the text is what the scan does
-abbrev Ends : Scan → Step → Type 0
-Ends f Dead = f ≡ Stop 0
-Ends f (Within s) = f ≡ Stop 0
-Ends f (Closed k a c d s) = (f ≡ Whole (symbol k a c d ∷ [])) × Named k a c d
+abbrev Ends : Scan → Option read.Symbol → Type 0
+Ends f None = f ≡ Stop 0
+Ends f (Some h) = (f ≡ Whole (said h ∷ [])) × Named h.kind h.first h.second h.third
+
+-- after a number
+ends-number : (k j a c v n : ℕ) → Held (Digits (slot k j a c n) v) → Ends (finish (Digits (slot k j a c n) v)) (end_of (Digits (slot k j a c n) v))
+unfolding finish end_of
+ends-number k j a c v n h =
+    cases (leb (low k j) v) (λ t. (t ≡ true → low k j ≤ v) → Ends (cond t (cond (ltb (j + 1) (field_count k)) (Stop 0) (last (coded k (first_field j a v) (second_field j c v) (third_field j v)) n)) (Stop 0)) (cond t (cond (ltb (j + 1) (field_count k)) None (final (coded k (first_field j a v) (second_field j c v) (third_field j v)) n)) None))
+    (λ e y. cases (ltb (j + 1) (field_count k)) (λ t. (t ≡ false → field_count k ≤ j + 1) → Ends (cond t (Stop 0) (last (coded k (first_field j a v) (second_field j c v) (third_field j v)) n)) (cond t None (final (coded k (first_field j a v) (second_field j c v) (third_field j v)) n)))
+    (λ g z. refl)
+    (λ g z. cases (eqb (n + arity k (first_field j a v)) 1) (λ t. Ends (cond t (Whole (symbol k (first_field j a v) (second_field j c v) (third_field j v) ∷ [])) (Stop 0)) (cond t (Some (coded k (first_field j a v) (second_field j c v) (third_field j v))) None))
+    (λ q. (refl, (made-last k h.0.sound a c v j (omega (arith, z refl, h.0.field)) h.0.earlier (y refl, h.2.below)).named)) (λ q. refl))
+    (ltb-false (j + 1) (field_count k)))
+    (λ e y. refl) (leb-true (low k j) v)
 
 -- in every state
 ends : (s : State) → Held s → Ends (finish s) (end_of s)
 unfolding finish end_of
 ends (Letters r m n) h = refl
-ends (Field k j a c n) h = refl
-ends (Digits k j a c v n) h =
-    cases (leb (low k j) v) (λ t. (t ≡ true → low k j ≤ v) → Ends (cond t (cond (ltb (j + 1) (field_count k)) (Stop 0) (last k (first_field j a v) (second_field j c v) (third_field j v) n)) (Stop 0)) (cond t (cond (ltb (j + 1) (field_count k)) Dead (final k (first_field j a v) (second_field j c v) (third_field j v) n)) Dead))
-    (λ e y. cases (ltb (j + 1) (field_count k)) (λ t. (t ≡ false → field_count k ≤ j + 1) → Ends (cond t (Stop 0) (last k (first_field j a v) (second_field j c v) (third_field j v) n)) (cond t Dead (final k (first_field j a v) (second_field j c v) (third_field j v) n)))
-    (λ g z. refl)
-    (λ g z. cases (eqb (n + arity k (first_field j a v)) 1) (λ t. Ends (cond t (Whole (symbol k (first_field j a v) (second_field j c v) (third_field j v) ∷ [])) (Stop 0)) (cond t (Closed k (first_field j a v) (second_field j c v) (third_field j v) (Letters 0 0 0)) Dead))
-    (λ q. (refl, (made-last k h.0.sound a c v j (omega (arith, z refl, h.0.field)) h.0.earlier (y refl, h.2.below)).named)) (λ q. refl))
-    (ltb-false (j + 1) (field_count k)))
-    (λ e y. refl) (leb-true (low k j) v)
+ends (Field f) h = refl
+ends (Digits f v) h = ends-number f.kind f.field f.first f.second v f.need h
 
 module _ (text ks xs ys zs : List ℕ) (count : ℕ) (s : State) (i : ℕ) (v : Scanning text ks xs ys zs count s i) (l : length text ≤ i) where
   at-end : scan text (Letters 0 0 1) ≡ resume i v.done (finish s)
   unfolding scan
   at-end = v.rest ∙ ap (λ (w : List ℕ). resume i v.done (scan w s)) (drop_of_length-le text {i = i} l)
 
-  pub end-dead : (t : Step) → t ≡ end_of s → t ≡ Dead → scan text (Letters 0 0 1) ≡ Stop i
-  end-dead t q d = let g : finish s ≡ Stop 0 = subst (Ends (finish s)) (sym q ∙ d) (ends s v.held) in at-end ∙ (ap (resume i v.done) g ∙ ap Stop (omega arith))
+  pub end-none : (t : Option read.Symbol) → t ≡ end_of s → t ≡ None → scan text (Letters 0 0 1) ≡ Stop i
+  end-none t q d = let g : finish s ≡ Stop 0 = subst (Ends (finish s)) (sym q ∙ d) (ends s v.held) in at-end ∙ (ap (resume i v.done) g ∙ ap Stop (omega arith))
 
-  pub end-within : (t : Step) (s' : State) → t ≡ end_of s → t ≡ Within s' → scan text (Letters 0 0 1) ≡ Stop i
-  end-within t s' q d = let g : finish s ≡ Stop 0 = subst (Ends (finish s)) (sym q ∙ d) (ends s v.held) in at-end ∙ (ap (resume i v.done) g ∙ ap Stop (omega arith))
-
-  pub end-closed : (t : Step) (k a c d : ℕ) (s' : State) → t ≡ end_of s → t ≡ Closed k a c d s' → Ended text (put_at ks count k) (put_at xs count a) (put_at ys count c) (put_at zs count d) (count + 1)
-  end-closed t k a c d s' q z =
-      let g : (finish s ≡ Whole (symbol k a c d ∷ [])) × Named k a c d = subst (Ends (finish s)) (sym q ∙ z) (ends s v.held) in
+  pub end-some : (t : Option read.Symbol) (h : read.Symbol) → t ≡ end_of s → t ≡ Some h → Ended text (put_at ks count h.kind) (put_at xs count h.first) (put_at ys count h.second) (put_at zs count h.third) (count + 1)
+  end-some t h q z =
+      let g : (finish s ≡ Whole (said h ∷ [])) × Named h.kind h.first h.second h.third = subst (Ends (finish s)) (sym q ∙ z) (ends s v.held) in
       record {
-        symbols = v.done ++ (symbol k a c d ∷ []);
+        symbols = v.done ++ (said h ∷ []);
         whole = at-end ∙ ap (resume i v.done) g.0;
-        counted = omega (arith, v.counted, length-append v.done (symbol k a c d ∷ []));
-        columns = push v.done ks xs ys zs count k a c d v.counted g.1 v.columns;
+        counted = omega (arith, v.counted, length-append v.done (said h ∷ []));
+        columns = push v.done ks xs ys zs count h.kind h.first h.second h.third v.counted g.1 v.columns;
       }
 
 -- ── What the answers tell ──

@@ -3,7 +3,6 @@ ghost use Rattle.std.specs.Prelude.{◌≡◌, false, ◌≤◌, length};
 ghost use Rattle.pattern.specs.Automaton.{scan};
 ghost use Rattle.pattern.specs.inner.Scanner.{Tells, put_at, start_after};
 
-use super::alphabet::wide;
 use super::automaton::{advance, last};
 use super::{Scanned, State, Step};
 use nodes::NODES;
@@ -37,11 +36,11 @@ fn put(a: &mut [usize; NODES], i: usize, v: usize)
 }
 
 // Where the word or number of the byte after byte i, which is b, starts: past a comma, else where the present one does.
-fn start_after(from: usize, i: usize, b: usize) -> usize
+fn start_after(from: usize, i: usize, b: u8) -> usize
     requires { i ≤ 1024 }
     ensures { result ≡ start_after from i b }
 {
-    if b == 44 { i + 1 } else { from }
+    if b == b',' { i + 1 } else { from }
 }
 
 // The symbols of a text, or the place where it stops.
@@ -64,28 +63,22 @@ pub(crate) fn scan(text: &[u8]) -> Scanned
     let mut from: usize = 0;
     let mut i = 0;
     while i < text.len() {
-        let b = wide(text[i]);
+        let b = text[i];
         let end = i + 1;
         match advance(&places, &text[from..end], s, b) {
-            Step::Dead => {
+            None => {
                 return stopped(i);
             }
-            Step::Within(t) => {
+            Some(Step::Within(t)) => {
                 s = t;
                 from = start_after(from, i, b);
                 i += 1;
             }
-            Step::Closed {
-                kind: k,
-                first: a,
-                second: c,
-                third: d,
-                next: t,
-            } => {
-                put(&mut kind, count, k);
-                put(&mut first, count, a);
-                put(&mut second, count, c);
-                put(&mut third, count, d);
+            Some(Step::Closed(symbol, t)) => {
+                put(&mut kind, count, symbol.kind);
+                put(&mut first, count, symbol.first);
+                put(&mut second, count, symbol.second);
+                put(&mut third, count, symbol.third);
                 count += 1;
                 s = t;
                 from = end;
@@ -94,19 +87,12 @@ pub(crate) fn scan(text: &[u8]) -> Scanned
         }
     }
     match last(s) {
-        Step::Dead => stopped(i),
-        Step::Within(_) => stopped(i),
-        Step::Closed {
-            kind: k,
-            first: a,
-            second: c,
-            third: d,
-            next: _,
-        } => {
-            put(&mut kind, count, k);
-            put(&mut first, count, a);
-            put(&mut second, count, c);
-            put(&mut third, count, d);
+        None => stopped(i),
+        Some(symbol) => {
+            put(&mut kind, count, symbol.kind);
+            put(&mut first, count, symbol.first);
+            put(&mut second, count, symbol.second);
+            put(&mut third, count, symbol.third);
             Scanned {
                 whole: true,
                 place: 0,

@@ -1,12 +1,10 @@
 // The nodes of a whole text: the sizes of their subtrees, the depth, and the table.
-ghost use Rattle.std.specs.Prelude.{◌≡◌, ◌++◌, ◌≤◌, length};
-ghost use Rattle.std.proofs.Math.Seq.{paste};
-ghost use Rattle.pattern.specs.inner.Nodes.{Encodes, Measured};
+ghost use Rattle.pattern.specs.inner.Nodes.{Encodes, Measured, Tabled};
 
 use super::alphabet::arity;
 use super::{Sizes, Table};
 use basics::longer;
-use nodes::{FIRST, NODES, SECOND, SIZE, TABLE, THIRD};
+use nodes::{NO_NODE, NODES, Node};
 
 // The sizes of the subtrees and the depth, from the last node to the first: a node's operands have theirs by then.
 pub(crate) fn measure(kind: [usize; NODES], first: [usize; NODES], count: usize) -> Sizes
@@ -34,19 +32,7 @@ pub(crate) fn measure(kind: [usize; NODES], first: [usize; NODES], count: usize)
     Sizes { size, depth: root }
 }
 
-// The array with the column from the place on.
-fn put_column(rows: &mut [usize; TABLE], at: usize, column: [usize; NODES])
-    requires { (length rows.old ≡ 160) × ((at ≤ 128) × (length column ≡ 32)) }
-    ensures { (rows.new ≡ paste rows.old at column 32) × (length rows.new ≡ 160) }
-{
-    let mut i = 0;
-    while i < NODES {
-        rows[at + i] = column[i];
-        i += 1;
-    }
-}
-
-// The table of five columns.
+// The table of the nodes, column by column.
 pub(crate) fn tabled(
     count: usize,
     kind: [usize; NODES],
@@ -55,14 +41,17 @@ pub(crate) fn tabled(
     second: [usize; NODES],
     third: [usize; NODES],
 ) -> Table
-    requires { (length kind ≡ 32) × ((length size ≡ 32) × ((length first ≡ 32) × ((length second ≡ 32) × (length third ≡ 32)))) }
-    ensures { (result.count ≡ count) × (result.rows ≡ kind ++ (size ++ (first ++ (second ++ third)))) }
+    ensures { Tabled count kind size first second third result }
 {
-    let mut rows = [0usize; TABLE];
-    put_column(&mut rows, 0, kind);
-    put_column(&mut rows, SIZE, size);
-    put_column(&mut rows, FIRST, first);
-    put_column(&mut rows, SECOND, second);
-    put_column(&mut rows, THIRD, third);
+    let mut rows = [NO_NODE; NODES];
+    for v in 0..NODES {
+        rows[v] = Node {
+            kind: kind[v],
+            size: size[v],
+            first: first[v],
+            second: second[v],
+            third: third[v],
+        };
+    }
     Table { count, rows }
 }

@@ -5,8 +5,8 @@
 #![tactic(auto)]
 
 use input::read_whole;
-use nodes::TABLE;
-use pattern::Verdict;
+use nodes::Node;
+use pattern::Refusal;
 use std::io;
 
 // The last decimal digit.
@@ -34,36 +34,29 @@ fn show(rt: &impl Print, letter: u8, number: u8, value: usize) -> io::Result<()>
 }
 
 fn answer(rt: &impl Print, text: &[u8]) -> io::Result<()> {
-    let r = pattern::read(text);
-    let v = r.verdict;
-    match v {
-        Verdict::Accepted => show(rt, b'A', b'0', r.table.count),
-        Verdict::Long => show(rt, b'R', b'2', 0),
-        Verdict::Misspelt(p) => show(rt, b'R', b'3', p),
-        Verdict::Crowded => show(rt, b'R', b'4', 0),
-        Verdict::Deep => show(rt, b'R', b'5', 0),
+    match pattern::read(text) {
+        Ok(table) => show(rt, b'A', b'0', table.count),
+        Err(Refusal::Long) => show(rt, b'R', b'2', 0),
+        Err(Refusal::Misspelt(p)) => show(rt, b'R', b'3', p),
+        Err(Refusal::Crowded) => show(rt, b'R', b'4', 0),
+        Err(Refusal::Deep) => show(rt, b'R', b'5', 0),
     }
 }
 
-// The entries of node v: kind, size, first and second number.
-fn row(rt: &impl Print, rows: [usize; TABLE], v: usize) -> io::Result<()> {
-    if v < 32 {
-        field(rt, rows[v], 44u8)?;
-        field(rt, rows[32 + v], 44u8)?;
-        field(rt, rows[64 + v], 44u8)?;
-        field(rt, rows[96 + v], 10u8)?;
-    }
-    Ok(())
+// The entries of a node: kind, size, first and second number.
+fn row(rt: &impl Print, node: Node) -> io::Result<()> {
+    field(rt, node.kind, b',')?;
+    field(rt, node.size, b',')?;
+    field(rt, node.first, b',')?;
+    field(rt, node.second, b'\n')
 }
 
 // A table: its nodes, and the entry past them.
 fn entries(rt: &impl Print, text: &[u8]) -> io::Result<()> {
-    let r = pattern::read(text);
-    let rows = r.table.rows;
-    let mut v = 0;
-    while v < 14 {
-        row(rt, rows, v)?;
-        v += 1;
+    if let Ok(table) = pattern::read(text) {
+        for node in &table.rows[..14] {
+            row(rt, *node)?;
+        }
     }
     Ok(())
 }

@@ -3,7 +3,9 @@ use mathlib.Core.Path.{◌≡◌, refl, sym, ap, subst, ◌∙◌}
 use mathlib.Core.List.{List, [], ◌∷◌}
 use Prim.Native.Nat.{ℕ, suc, ◌+◌, ◌≤◌, ◌<◌}
 use native.Mathlib.Omega.{arith}
-use Rattle.stretches.specs.Stretch.{Stretch, st, Fine}
+use Rattle.stretches.specs.declared.Node.{Node}
+use Rattle.stretches.specs.declared.Stretch.{Stretch}
+use Rattle.stretches.specs.Stretch.{st, Fine}
 use Rattle.stretches.specs.Front.{None, Some, first_from, first_to, onward}
 use Rattle.stretches.specs.Front as fronts
 use Rattle.stretches.proofs.Fronts.{front-good}
@@ -46,10 +48,10 @@ module _ (l : List Stretch) (f : Fine 65536 l) (t : ℕ) (r : Front) (e : r ≡ 
 ahead_none : (t : ℕ) (r : Front) → r ≡ none_f → Ahead t r
 ahead_none t r e = let z : r.start ≡ 65536 = ap (λ (f : Front). f.start) e in record { from = λ lt. absurd (omega arith); small = omega arith; none = λ n. e }
 
-pub first_out : {src : Source} {rows s : List ℕ} {v t : ℕ} {r : Front} → 32 ≤ v → r ≡ none_f → FirstOf src rows s v t r s × Ahead t r
+pub first_out : {src : Source} {rows : List Node} {s : List ℕ} {v t : ℕ} {r : Front} → 32 ≤ v → r ≡ none_f → FirstOf src rows s v t r s × Ahead t r
 first_out {t = t} {r = r} ge e = (record { finds = λ lv good rdy. absurd (omega arith); outside = λ h. (e, refl) }, ahead_none t r e)
 
-module _ {src : Source} {rows s : List ℕ} {v t : ℕ} {f : Front} {s' : List ℕ} (lv : v < 32) (g : Sought src rows s v t f s') where
+module _ {src : Source} {rows : List Node} {s : List ℕ} {v t : ℕ} {f : Front} {s' : List ℕ} (lv : v < 32) (g : Sought src rows s v t f s') where
   -- what is handed out is what was sought
   handed : {r : Front} → (Good src rows → f ≡ first src rows v t → r ≡ f) → FirstOf src rows s v t r s'
   handed same = record { finds = λ h good rdy. let k = g.found good rdy in record { is = same good k.is ∙ k.is; ready = k.ready }; outside = λ h. absurd (omega arith) }
@@ -66,28 +68,28 @@ module _ {src : Source} {rows s : List ℕ} {v t : ℕ} {f : Front} {s' : List �
   first-at one lo = (handed (λ good is. refl), record { from = λ z. lo; small = omega arith; none = λ n. absurd (omega arith) })
 
 -- what `first` finds is a node's front
-pub first-front : {src : Source} {rows s s' : List ℕ} {v t : ℕ} {f : Front} → FirstOf src rows s v t f s' → Good src rows → Ready src rows s → v < 32 → f ≡ front (first_from (list_over src rows v) t)
+pub first-front : {src : Source} {rows : List Node} {s s' : List ℕ} {v t : ℕ} {f : Front} → FirstOf src rows s v t f s' → Good src rows → Ready src rows s → v < 32 → f ≡ front (first_from (list_over src rows v) t)
 unfolding first
 first-front g good rdy lv = (g.finds lv good rdy).is
 
 -- and what `first_to` finds its first to a line
-pub reach-front : {src : Source} {rows s s' : List ℕ} {v e : ℕ} {f : Front} → ReachOf src rows s v e f s' → Good src rows → Ready src rows s → v < 32 → f ≡ front (first_to (list_over src rows v) e)
+pub reach-front : {src : Source} {rows : List Node} {s s' : List ℕ} {v e : ℕ} {f : Front} → ReachOf src rows s v e f s' → Good src rows → Ready src rows s → v < 32 → f ≡ front (first_to (list_over src rows v) e)
 unfolding reach
 reach-front g good rdy lv = (g.finds lv good rdy).is
 
-pub reach-handed : {src : Source} {rows s : List ℕ} {v e : ℕ} {r : Front} {s' : List ℕ} → v < 32 → Reached src rows s v e r s' → ReachOf src rows s v e r s'
+pub reach-handed : {src : Source} {rows : List Node} {s : List ℕ} {v e : ℕ} {r : Front} {s' : List ℕ} → v < 32 → Reached src rows s v e r s' → ReachOf src rows s v e r s'
 reach-handed lv g = record { finds = λ h good rdy. g.found good rdy; outside = λ h. absurd (omega arith) }
 
-pub reach-outside : {src : Source} {rows s : List ℕ} {v e : ℕ} {r : Front} → 32 ≤ v → r ≡ none_f → ReachOf src rows s v e r s
+pub reach-outside : {src : Source} {rows : List Node} {s : List ℕ} {v e : ℕ} {r : Front} → 32 ≤ v → r ≡ none_f → ReachOf src rows s v e r s
 reach-outside ge e = record { finds = λ lv good rdy. absurd (omega arith); outside = λ h. (e, refl) }
 
 -- ── A step over node 0's stretches ──
 
 -- those from a line on
-abbrev pub rest : Source → List ℕ → ℕ → List Stretch
+abbrev pub rest : Source → List Node → ℕ → List Stretch
 rest src rows t = onward (list_over src rows 0) t
 
-module _ {src : Source} {rows s : List ℕ} {t : ℕ} {f : Front} {s' : List ℕ} (g : FirstOf src rows s 0 t f s') (good : Good src rows) (rdy : Ready src rows s) where
+module _ {src : Source} {rows : List Node} {s : List ℕ} {t : ℕ} {f : Front} {s' : List ℕ} (g : FirstOf src rows s 0 t f s') (good : Good src rows) (rdy : Ready src rows s) where
   pub step-ready : Ready src rows s'
   step-ready = (g.finds (omega arith) good rdy).ready
 

@@ -7,7 +7,8 @@ use Prim.Native.Nat.{ℕ, ◌<◌}
 use native.Mathlib.Omega.{arith}
 use lib.Dec.{ltb}
 use borrow.Author.Tests.{ltb-true, ltb-false, lt-ltb, le-ltb}
-use Rattle.stretches.specs.Stretch.{Stretch, Rising, AllRising, Or, answers}
+use Rattle.stretches.specs.declared.Stretch.{Stretch}
+use Rattle.stretches.specs.Stretch.{Rising, AllRising, Or, answers}
 use Rattle.stretches.specs.Front.{None, Some, first_from}
 use Rattle.stretches.specs.Taking.{ends_first}
 use Rattle.stretches.specs.Front as fronts

@@ -6,7 +6,8 @@ use Prim.Native.Nat.{ℕ, suc, ◌+◌, ◌≤◌, ◌<◌, min, max}
 use native.Mathlib.Omega.{arith}
 use lib.Dec.{leb, ltb, eqb}
 use borrow.Author.Tests.{leb-true, leb-false, ltb-false, lt-ltb, le-ltb, eqb-true, eqb-false}
-use Rattle.stretches.specs.Stretch.{Stretch, st, In, AllRising, AllSound, Fine, low, high, keep, contains_none, lies_in_none, Op, And, Row, Then, answers}
+use Rattle.stretches.specs.declared.Stretch.{Stretch}
+use Rattle.stretches.specs.Stretch.{st, In, AllRising, AllSound, Fine, low, high, keep, contains_none, lies_in_none, Op, And, Row, Then, answers}
 use Rattle.stretches.specs.Front.{None, Some, first_from, first_to}
 use Rattle.stretches.specs.Front as fronts
 use Rattle.stretches.specs.Table.{holder_kind}

@@ -7,7 +7,9 @@ use Prim.Native.Nat.{ℕ, ◌+◌, ◌≤◌, ◌<◌}
 use native.Mathlib.Omega.{arith}
 use lib.Dec.{eqb}
 use borrow.Author.Tests.{ne_eqb}
-use Rattle.stretches.specs.Stretch.{Stretch, Fine, keep, keep_first, contains_none, contains_some, lies_in_none, lies_in_some, at_most, Op, answers, marks}
+use Rattle.stretches.specs.declared.Node.{Node}
+use Rattle.stretches.specs.declared.Stretch.{Stretch}
+use Rattle.stretches.specs.Stretch.{Fine, keep, keep_first, contains_none, contains_some, lies_in_none, lies_in_some, at_most, Op, answers, marks}
 use Rattle.stretches.specs.Operators.{operator_of, apply}
 use Rattle.stretches.specs.Front.{None, Some, first_from}
 use Rattle.stretches.specs.Table.{kind_at, first_at, second_at, stop_of}
@@ -30,7 +32,7 @@ use Rattle.seek.proofs.Looks.{TightLook, t-none, SkipLook, k-none, and-look, the
 
 -- ── Fronts ──
 
-module _ (src : Source) (rows : List ℕ) (good : Good src rows) (v : ℕ) (lv : v < 32) where
+module _ (src : Source) (rows : List Node) (good : Good src rows) (v : ℕ) (lv : v < 32) where
   -- a node's list is fine
   pub fine : Fine 65536 (list_over src rows v)
   fine = fine-list (given src rows) rows 65536 good v lv
@@ -64,7 +66,7 @@ module _ (src : Source) (rows : List ℕ) (good : Good src rows) (v : ℕ) (lv :
 
 -- ── A node's list by its kind ──
 
-module _ (src : Source) (rows : List ℕ) (v : ℕ) (lv : v < 32) where
+module _ (src : Source) (rows : List Node) (v : ℕ) (lv : v < 32) where
   pub by_kind : (k : ℕ) → kind_at rows v ≡ k → list_over src rows v ≡ apply (operator_of (measured src) k (first_at rows v)) (own_list src k (first_at rows v) (second_at rows v)) (operands_of (given src rows) rows v)
   by_kind k e =
       list-node (given src rows) rows v lv
@@ -91,7 +93,7 @@ module _ (src : Source) (rows : List ℕ) (v : ℕ) (lv : v < 32) where
 -- ── and, then: tight looks ──
 
 -- what narrowing needs of a node: its operator over fine lists, with tight looks
-pub record Narrowing (src : Source) (rows : List ℕ) (v : ℕ) : Type 0 where
+pub record Narrowing (src : Source) (rows : List Node) (v : ℕ) : Type 0 where
   pub op : Op
   pub ls : List (List Stretch)
   pub fines : AllFine 65536 ls
@@ -105,7 +107,7 @@ small-cand o ls f s e c =
     let b = cand-below o 65536 ls f.below s e c in
     (omega arith, b)
 
-module _ (src : Source) (rows : List ℕ) (good : Good src rows) (v : ℕ) (lv : v < 32) where
+module _ (src : Source) (rows : List Node) (good : Good src rows) (v : ℕ) (lv : v < 32) where
   -- a look by the node's kind
   pub look-kind : (k t : ℕ) → kind_at rows v ≡ k → look src rows v t ≡ look_by src k (first_at rows v) (operands_of (given src rows) rows v) t
   unfolding look

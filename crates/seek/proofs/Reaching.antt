@@ -8,7 +8,9 @@ use native.Mathlib.Omega.{arith}
 use lib.Dec.{leb}
 use borrow.Author.Tests.{leb-true}
 use Rattle.basics.proofs.Basics.{cases, le-or-lt}
-use Rattle.stretches.specs.Stretch.{Stretch, In, Fine}
+use Rattle.stretches.specs.declared.Node.{Node}
+use Rattle.stretches.specs.declared.Stretch.{Stretch}
+use Rattle.stretches.specs.Stretch.{In, Fine}
 use Rattle.stretches.specs.Front.{None, Some, first_from, first_to}
 use Rattle.stretches.specs.Front as fronts
 use Rattle.stretches.proofs.Answers.{rising-mono}
@@ -24,10 +26,10 @@ use Rattle.seek.proofs.State.{ready-pass}
 use Rattle.seek.proofs.Ahead.{front-some}
 
 -- all that starts before `from` ends before e
-pub record ReachInv (src : Source) (rows s₀ : List ℕ) (v e : ℕ) (s : List ℕ) (from : ℕ) : Type 0 where
+pub record ReachInv (src : Source) (rows : List Node) (s₀ : List ℕ) (v e : ℕ) (s : List ℕ) (from : ℕ) : Type 0 where
   pub at : Good src rows → Ready src rows s₀ → Ready src rows s × Ended src rows v from e
 
-pub reach-start : {src : Source} {rows s : List ℕ} {v e from : ℕ} → v < 32 → from ≡ resume_at s v e → ReachInv src rows s v e s from
+pub reach-start : {src : Source} {rows : List Node} {s : List ℕ} {v e from : ℕ} → v < 32 → from ≡ resume_at s v e → ReachInv src rows s v e s from
 unfolding resume_at
 reach-start {src} {rows} {s} {v} {e} lv z = record {
   at = λ good rdy. (
@@ -73,7 +75,7 @@ module _ (l : List Stretch) (f : Fine 65536 l) (t e : ℕ) (early : (a z : ℕ) 
           let j = rising-mono l f.rising a z y.start y.end m i.0 (omega arith) in
           omega (arith, ap (λ (x : Front). x.end) w)
 
-module _ {src : Source} {rows s₀ : List ℕ} {v e : ℕ} {s : List ℕ} {from : ℕ} (lv : v < 32) (inv : ReachInv src rows s₀ v e s from) where
+module _ {src : Source} {rows : List Node} {s₀ : List ℕ} {v e : ℕ} {s : List ℕ} {from : ℕ} (lv : v < 32) (inv : ReachInv src rows s₀ v e s from) where
   pub reach-out : {r : Front} → 65536 ≤ from → r ≡ none_f → Reached src rows s₀ v e r s
   unfolding reach
   reach-out ge er = record {

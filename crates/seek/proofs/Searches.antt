@@ -7,7 +7,8 @@ use Prim.Native.Nat.{ℕ, suc, ◌+◌, ◌≤◌, ◌<◌}
 use native.Mathlib.Omega.{arith}
 use lib.Dec.{ltb}
 use borrow.Author.Tests.{ltb-false, lt-ltb, le-ltb}
-use Rattle.stretches.specs.Stretch.{Stretch}
+use Rattle.stretches.specs.declared.Node.{Node}
+use Rattle.stretches.specs.declared.Stretch.{Stretch}
 use Rattle.stretches.specs.Front.{first_from}
 use Rattle.stretches.specs.Table.{kind_at}
 use Rattle.basics.proofs.Basics.{cases, le-or-lt}
@@ -38,15 +39,15 @@ better-none b lt e = simp (le-ltb b.end 65536 (omega arith), le-ltb 65536 b.end 
 -- ── and, then: narrowed to the last look that still ends where the first does ──
 
 -- the last look before line m, if there was one
-pub data Narrowed {src : Source} {rows : List ℕ} {v : ℕ} (w : Narrowing src rows v) (t : ℕ) : Front → ℕ → Type 0 where
+pub data Narrowed {src : Source} {rows : List Node} {v : ℕ} (w : Narrowing src rows v) (t : ℕ) : Front → ℕ → Type 0 where
   n-start : Narrowed w t none_f t
   n-at : {f : Front} → Tight w.op w.ls t f.start f.end → Narrowed w t f (f.start + 1)
 
-tight-some : {src : Source} {rows : List ℕ} {v : ℕ} (w : Narrowing src rows v) (t : ℕ) {r : Front} → TightLook w.op w.ls t r → r.start < 65536 → Tight w.op w.ls t r.start r.end
+tight-some : {src : Source} {rows : List Node} {v : ℕ} (w : Narrowing src rows v) (t : ℕ) {r : Front} → TightLook w.op w.ls t r → r.start < 65536 → Tight w.op w.ls t r.start r.end
 tight-some w t (t-none g) e = absurd (omega arith)
 tight-some w t (t_some h) e = h
 
-module _ {src : Source} {rows : List ℕ} {v : ℕ} (w : Narrowing src rows v) (t : ℕ) where
+module _ {src : Source} {rows : List Node} {v : ℕ} (w : Narrowing src rows v) (t : ℕ) where
   tight-gone : {r : Front} → TightLook w.op w.ls t r → 65536 ≤ r.start → Gone w.op w.ls t
   tight-gone (t-none g) n = g
   tight-gone (t_some {r} h) n = absurd (omega (arith, (small-cand w.op w.ls w.fines r.start r.end h.cand).0))
@@ -77,12 +78,12 @@ module _ {src : Source} {rows : List ℕ} {v : ℕ} (w : Narrowing src rows v) (
 
 -- ── row and the filters: skipped to the first look that is good ──
 
-record Onward (src : Source) (rows : List ℕ) (v t : ℕ) (a : Front) : Type 0 where
+record Onward (src : Source) (rows : List Node) (v t : ℕ) (a : Front) : Type 0 where
   from : t ≤ a.start
   ends : a.end ≡ 65536
   is : first src rows v t ≡ first src rows v (a.start + 1)
 
-module _ (src : Source) (rows : List ℕ) (v t : ℕ) where
+module _ (src : Source) (rows : List Node) (v t : ℕ) where
   skip-none : {a : Front} → SkipLook (list_over src rows v) t a → 65536 ≤ a.start → none_f ≡ first src rows v t
   unfolding first
   skip-none (k-none e) n = ap front (sym e)
@@ -111,22 +112,22 @@ module _ (src : Source) (rows : List ℕ) (v t : ℕ) where
 -- ── Look by look ──
 
 -- best is the best look from t up to `from`
-pub record AdvanceInv (src : Source) (rows s₀ : List ℕ) (v t : ℕ) (s : List ℕ) (best : Front) (from : ℕ) : Type 0 where
+pub record AdvanceInv (src : Source) (rows : List Node) (s₀ : List ℕ) (v t : ℕ) (s : List ℕ) (best : Front) (from : ℕ) : Type 0 where
   pub at : Good src rows → Ready src rows s₀
       → Ready src rows s × ((w : Narrowing src rows v) → Narrowed w t best from) × (Skips (kind_at rows v) → (best ≡ none_f) × (first src rows v from ≡ first src rows v t))
 
-pub advance-start : {src : Source} {rows s : List ℕ} {v t : ℕ} {best : Front} → best ≡ none_f → AdvanceInv src rows s v t s best t
+pub advance-start : {src : Source} {rows : List Node} {s : List ℕ} {v t : ℕ} {best : Front} → best ≡ none_f → AdvanceInv src rows s v t s best t
 advance-start {t = t} e = record { at = λ good rdy. (rdy, λ w. subst (λ (f : Front). Narrowed w t f t) (sym e) n-start, λ k. (e, refl)) }
 
 -- what is found, by the kind
-found-by : {src : Source} {rows s s' : List ℕ} {v t : ℕ} {r : Front} → v < 32 → 1 < kind_at rows v → kind_at rows v < 10
+found-by : {src : Source} {rows : List Node} {s s' : List ℕ} {v t : ℕ} {r : Front} → v < 32 → 1 < kind_at rows v → kind_at rows v < 10
     → (Good src rows → Ready src rows s → Ready src rows s' × (Narrows (kind_at rows v) → Narrowing src rows v → r ≡ first src rows v t) × (Skips (kind_at rows v) → r ≡ first src rows v t))
     → Sought src rows s v t r s'
 found-by {src} {rows} {v = v} lv some few h = record {
   found = λ good rdy. let g = h good rdy in record { is = ⊎_elim (λ k. g.1 k (narrowing src rows good v lv k)) g.2 (operator (kind_at rows v) some few); ready = g.0 };
 }
 
-module _ {src : Source} {rows s : List ℕ} {v t : ℕ} {s₁ : List ℕ} {best : Front} {from : ℕ} (lv : v < 32) (some : 1 < kind_at rows v) (inv : AdvanceInv src rows s v t s₁ best from) where
+module _ {src : Source} {rows : List Node} {s : List ℕ} {v t : ℕ} {s₁ : List ℕ} {best : Front} {from : ℕ} (lv : v < 32) (some : 1 < kind_at rows v) (inv : AdvanceInv src rows s v t s₁ best from) where
   pub advance-out : 65536 ≤ from → kind_at rows v < 10 → Sought src rows s v t best s₁
   advance-out ge few = found-by lv some few (λ good rdy.
       let i = inv.at good rdy in (

@@ -7,7 +7,9 @@ use Prim.Native.Nat.{ℕ, ◌+◌, ◌-◌, ◌≤◌, ◌<◌}
 use native.Mathlib.Omega.{arith}
 use lib.ListN.{length, get_or, set, replicate, length-set, length-replicate, get_or-replicate}
 use lib.Seq.{get_or-set_same, get_or-set_other}
-use Rattle.stretches.specs.Stretch.{Stretch, Fine}
+use Rattle.stretches.specs.declared.Node.{Node}
+use Rattle.stretches.specs.declared.Stretch.{Stretch}
+use Rattle.stretches.specs.Stretch.{Fine}
 use Rattle.stretches.specs.Front.{first_from}
 use Rattle.stretches.specs.Table.{kind_at, first_at, second_at}
 use Rattle.basics.proofs.Basics.{eq-or-ne}
@@ -56,7 +58,7 @@ module _ (s : List ℕ) (v : ℕ) (f : Front) (t : ℕ) (wide : length s ≡ 192
   put-held : f.start ≤ 65536 → held_at (put_at s v f t) v ≡ f
   put-held le = let z : past_of f.start - 1 ≡ f.start = omega (arith, past_is f.start le) in ap₂ at_f (ap (λ (n : ℕ). n - 1) put-live ∙ z) put-end
 
-ready-put : (src : Source) (rows s : List ℕ) (v : ℕ) (f : Front) (t : ℕ) → v < 32 → Good src rows → f ≡ first src rows v t → Ready src rows s → Ready src rows (put_at s v f t)
+ready-put : (src : Source) (rows : List Node) (s : List ℕ) (v : ℕ) (f : Front) (t : ℕ) → v < 32 → Good src rows → f ≡ first src rows v t → Ready src rows s → Ready src rows (put_at s v f t)
 ready-put src rows s v f t lv good e rdy = record {
   wide = put-wide s v f t ∙ rdy.wide;
   holds = λ u lt live. ⊎_elim
@@ -81,7 +83,7 @@ pass-other : (s : List ℕ) (v t e j : ℕ) → j ≢ 96 + v → j ≢ 128 + v �
 unfolding pass_at
 pass-other s v t e j a b = rw (get_or-set_other, get_or-set_other)
 
-pub ready-pass : (src : Source) (rows s : List ℕ) (v t e : ℕ) → v < 32 → Ended src rows v t e → Ready src rows s → Ready src rows (pass_at s v t e)
+pub ready-pass : (src : Source) (rows : List Node) (s : List ℕ) (v t e : ℕ) → v < 32 → Ended src rows v t e → Ready src rows s → Ready src rows (pass_at s v t e)
 unfolding pass_at
 ready-pass src rows s v t e lv h rdy = record {
   wide = wide ∙ rdy.wide;
@@ -108,7 +110,7 @@ ready-pass src rows s v t e lv h rdy = record {
     wide = simp length-set
 
 -- a state in which only hints changed
-ready-hinted : (src : Source) (rows s s' : List ℕ) → Hinted s s' → Ready src rows s → Ready src rows s'
+ready-hinted : (src : Source) (rows : List Node) (s s' : List ℕ) → Hinted s s' → Ready src rows s → Ready src rows s'
 ready-hinted src rows s s' h rdy = record {
   wide = h.wide ∙ rdy.wide;
   holds = λ v lt live.
@@ -119,7 +121,7 @@ ready-hinted src rows s s' h rdy = record {
 }
 
 -- nothing is kept yet
-pub ready-none : (src : Source) (rows : List ℕ) → Ready src rows (replicate 192 0)
+pub ready-none : (src : Source) (rows : List Node) → Ready src rows (replicate 192 0)
 ready-none src rows = record {
   wide = length-replicate {A = ℕ} 192 0;
   holds = λ v lt live. absurd (omega (arith, get_or-replicate {A = ℕ} 192 v 0 0 (omega arith)));
@@ -129,7 +131,7 @@ ready-none src rows = record {
 -- ── seek and renew ──
 
 -- what is kept serves
-pub served : {src : Source} {rows s : List ℕ} {v t : ℕ} {r : Front} → v < 32 → Serves s v t → r ≡ held_at s v → Sought src rows s v t r s
+pub served : {src : Source} {rows : List Node} {s : List ℕ} {v t : ℕ} {r : Front} → v < 32 → Serves s v t → r ≡ held_at s v → Sought src rows s v t r s
 served {src} {rows} {s} {v} {t} {r} lv w e = record {
   found = λ good rdy.
       let h : first src rows v (asked_at s v) ≡ held_at s v = rdy.holds v lv (omega (arith, w.live)) in
@@ -139,14 +141,14 @@ served {src} {rows} {s} {v} {t} {r} lv w e = record {
 }
 
 -- what was found is stored
-pub stored : {src : Source} {rows s s' s'' : List ℕ} {v t : ℕ} {r : Front} → v < 32 → Sought src rows s v t r s' → s'' ≡ put_at s' v r t → Sought src rows s v t r s''
+pub stored : {src : Source} {rows : List Node} {s s' s'' : List ℕ} {v t : ℕ} {r : Front} → v < 32 → Sought src rows s v t r s' → s'' ≡ put_at s' v r t → Sought src rows s v t r s''
 stored {src} {rows} {s} {s'} {s''} {v} {t} {r} lv w e = record {
   found = λ good rdy. let f = w.found good rdy in record { is = f.is; ready = subst (Ready src rows) (sym e) (ready-put src rows s' v r t lv good f.is f.ready) };
 }
 
 -- ── fresh ──
 
-pub by_row_lem : {src : Source} {rows s : List ℕ} {v t : ℕ} {r : Front} → v < 32 → kind_at rows v ≡ 16 → RowFound src.words (first_at rows v) (second_at rows v) t r → Sought src rows s v t r s
+pub by_row_lem : {src : Source} {rows : List Node} {s : List ℕ} {v t : ℕ} {r : Front} → v < 32 → kind_at rows v ≡ 16 → RowFound src.words (first_at rows v) (second_at rows v) t r → Sought src rows s v t r s
 unfolding first
 by_row_lem {src} {rows} {s} {v} {t} lv k f = record {
   found = λ good rdy.
@@ -154,7 +156,7 @@ by_row_lem {src} {rows} {s} {v} {t} lv k f = record {
       record { is = f.is (subst (Fine 65536) z (fine src rows good v lv)) ∙ ap (λ (l : List Stretch). front (first_from l t)) (sym z); ready = rdy };
 }
 
-pub by-list : {src : Source} {rows s s' : List ℕ} {v t : ℕ} {r : Front} → v < 32 → kind_at rows v ≡ 17 → ListFound src.items (first_at rows v) (second_at rows v) t s r s'
+pub by-list : {src : Source} {rows : List Node} {s s' : List ℕ} {v t : ℕ} {r : Front} → v < 32 → kind_at rows v ≡ 17 → ListFound src.items (first_at rows v) (second_at rows v) t s r s'
     → Sought src rows s v t r s'
 unfolding first
 by-list {src} {rows} {s} {s'} {v} {t} lv k f = record {
@@ -164,7 +166,7 @@ by-list {src} {rows} {s} {s'} {v} {t} lv k f = record {
 }
 
 -- a kind that no list and no operator has
-pub by-none : {src : Source} {rows s : List ℕ} {v t : ℕ} {r : Front} → v < 32 → (kind_at rows v ≡ 0) ⊎ (9 < kind_at rows v) → (kind_at rows v ≡ 16 → ⊥) → (kind_at rows v ≡ 17 → ⊥) → r ≡ none_f
+pub by-none : {src : Source} {rows : List Node} {s : List ℕ} {v t : ℕ} {r : Front} → v < 32 → (kind_at rows v ≡ 0) ⊎ (9 < kind_at rows v) → (kind_at rows v ≡ 16 → ⊥) → (kind_at rows v ≡ 17 → ⊥) → r ≡ none_f
     → Sought src rows s v t r s
 unfolding first
 by-none {src} {rows} {s} {v} {t} lv k a b e = record { found = λ good rdy. record { is = e ∙ ap (λ (l : List Stretch). front (first_from l t)) (sym (no-list src rows v lv k a b)); ready = rdy } }

@@ -8,7 +8,9 @@ use Prim.Native.Nat.{ℕ, ◌+◌, ◌≤◌, ◌<◌, min, max}
 use native.Mathlib.Omega.{arith}
 use lib.Dec.{leb, ltb, eqb}
 use borrow.Author.Tests.{lt-ltb, le-ltb, eq-eqb, ne_eqb}
-use Rattle.stretches.specs.Stretch.{Stretch, st}
+use Rattle.stretches.specs.declared.Node.{Node}
+use Rattle.stretches.specs.declared.Stretch.{Stretch}
+use Rattle.stretches.specs.Stretch.{st}
 use Rattle.stretches.specs.Front.{first_from, first_to}
 use Rattle.stretches.specs.Table.{kind_at, first_at, chain_kind, holder_kind, next_of, stop_of}
 use Rattle.stretches.specs.inner.Operands.{operands_from, operands_of}
@@ -25,22 +27,22 @@ use Rattle.seek.proofs.Shapes.{chains}
 -- ── What is left of the operands ──
 
 -- v's operands from c on
-abbrev pub left : Source → List ℕ → ℕ → ℕ → List (List Stretch)
+abbrev pub left : Source → List Node → ℕ → ℕ → List (List Stretch)
 left src rows v c = operands_from (given src rows) rows (stop_of rows v) c
 
-left-more : (src : Source) (rows : List ℕ) (v c : ℕ) → v < 32 → c < stop_of rows v → left src rows v c ≡ list_over src rows c ∷ left src rows v (next_of rows c)
+left-more : (src : Source) (rows : List Node) (v c : ℕ) → v < 32 → c < stop_of rows v → left src rows v c ≡ list_over src rows c ∷ left src rows v (next_of rows c)
 left-more src rows v c lv lt = from_more (given src rows) rows (stop_of rows v) c lt (stop-most rows v)
 
-left_end : (src : Source) (rows : List ℕ) (v c : ℕ) → stop_of rows v ≤ c → left src rows v c ≡ []
+left_end : (src : Source) (rows : List Node) (v c : ℕ) → stop_of rows v ≤ c → left src rows v c ≡ []
 left_end src rows v c le = from_end (given src rows) rows (stop_of rows v) c le
 
 -- ── or ──
 
 -- the best of the operands before c is `best`
-pub record OrInv (src : Source) (rows s₀ : List ℕ) (v t : ℕ) (s : List ℕ) (c : ℕ) (best : Front) : Type 0 where
+pub record OrInv (src : Source) (rows : List Node) (s₀ : List ℕ) (v t : ℕ) (s : List ℕ) (c : ℕ) (best : Front) : Type 0 where
   pub at : kind_at rows v ≡ 1 → Good src rows → Ready src rows s₀ → Ready src rows s × (best_from t best (left src rows v c) ≡ first src rows v t)
 
-pub or-start : {src : Source} {rows s : List ℕ} {v t : ℕ} {r : Front} → v < 32 → r ≡ none_f → OrInv src rows s v t s (v + 1) r
+pub or-start : {src : Source} {rows : List Node} {s : List ℕ} {v t : ℕ} {r : Front} → v < 32 → r ≡ none_f → OrInv src rows s v t s (v + 1) r
 unfolding first
 or-start {src} {rows} {s} {v} {t} lv e = record {
   at = λ k good rdy.
@@ -51,7 +53,7 @@ or-start {src} {rows} {s} {v} {t} lv e = record {
       );
 }
 
-pub or_turn : {src : Source} {rows s₀ : List ℕ} {v t : ℕ} {s s' : List ℕ} {c c' : ℕ} {best best' f : Front} → v < 32 → OrInv src rows s₀ v t s c best → c < stop_of rows v
+pub or_turn : {src : Source} {rows : List Node} {s₀ : List ℕ} {v t : ℕ} {s s' : List ℕ} {c c' : ℕ} {best best' f : Front} → v < 32 → OrInv src rows s₀ v t s c best → c < stop_of rows v
     → Sought src rows s c t f s' → best' ≡ better_of best f → c' ≡ next_of rows c → OrInv src rows s₀ v t s' c' best'
 unfolding first best_from
 or_turn {src} {rows} {s₀} {v} {t} {s} {s'} {c} {c'} {best} {best'} {f} lv inv lt w eb ec = record {
@@ -65,7 +67,7 @@ or_turn {src} {rows} {s₀} {v} {t} {s} {s'} {c} {c'} {best} {best'} {f} lv inv 
       );
 }
 
-pub or-end : {src : Source} {rows s₀ : List ℕ} {v t : ℕ} {s : List ℕ} {c : ℕ} {best : Front} → OrInv src rows s₀ v t s c best → stop_of rows v ≤ c → kind_at rows v ≡ 1 → Sought src rows s₀ v t best s
+pub or-end : {src : Source} {rows : List Node} {s₀ : List ℕ} {v t : ℕ} {s : List ℕ} {c : ℕ} {best : Front} → OrInv src rows s₀ v t s c best → stop_of rows v ≤ c → kind_at rows v ≡ 1 → Sought src rows s₀ v t best s
 unfolding best_from
 or-end {src} {rows} {s₀} {v} {t} {s} {c} {best} inv le k = record {
   found = λ good rdy. let i = inv.at k good rdy in record { is = sym (ap (best_from t best) (left_end src rows v c le)) ∙ i.1; ready = i.0 };
@@ -82,7 +84,7 @@ unfolding go_f
 go-none f k n = ap (λ b. cond b (k f) none_f) (le-ltb f.start 65536 n)
 
 -- a node without operands
-pub look_none : {src : Source} {rows s : List ℕ} {v t : ℕ} {r : Front} → stop_of rows v ≤ v + 1 → r ≡ none_f → Looked src rows s v t r s
+pub look_none : {src : Source} {rows : List Node} {s : List ℕ} {v t : ℕ} {r : Front} → stop_of rows v ≤ v + 1 → r ≡ none_f → Looked src rows s v t r s
 unfolding look
 look_none {src} {rows} {s} {v} {t} le e = record {
   seen = λ good rdy. record { is = e ∙ sym (ap (λ (ls : List (List Stretch)). look_by src (kind_at rows v) (first_at rows v) ls t) (left_end src rows v (v + 1) le)); ready = rdy };
@@ -91,10 +93,10 @@ look_none {src} {rows} {s} {v} {t} le e = record {
 -- ── and: a span ──
 
 -- [m..e] is the span of the operands before c
-pub record SpanInv (src : Source) (rows s₀ : List ℕ) (v t : ℕ) (s : List ℕ) (m e c : ℕ) : Type 0 where
+pub record SpanInv (src : Source) (rows : List Node) (s₀ : List ℕ) (v t : ℕ) (s : List ℕ) (m e c : ℕ) : Type 0 where
   pub at : kind_at rows v ≡ 2 → Good src rows → Ready src rows s₀ → Ready src rows s × (span_from t (at_f m e) (left src rows v c) ≡ look src rows v t)
 
-pub span-start : {src : Source} {rows s : List ℕ} {v t : ℕ} → v < 32 → v + 1 < stop_of rows v → SpanInv src rows s v t s 65536 0 (v + 1)
+pub span-start : {src : Source} {rows : List Node} {s : List ℕ} {v t : ℕ} → v < 32 → v + 1 < stop_of rows v → SpanInv src rows s v t s 65536 0 (v + 1)
 unfolding look
 span-start {src} {rows} {s} {v} {t} lv some = record {
   at = λ k good rdy.
@@ -102,7 +104,7 @@ span-start {src} {rows} {s} {v} {t} lv some = record {
       (rdy, ap (span_from t (at_f 65536 0)) z ∙ sym (look-kind src rows good v lv 2 t k ∙ ap (λ (ls : List (List Stretch)). look_by src 2 (first_at rows v) ls t) z));
 }
 
-module _ {src : Source} {rows s₀ : List ℕ} {v t : ℕ} {s s' : List ℕ} {m e c : ℕ} {f : Front} (lv : v < 32) (inv : SpanInv src rows s₀ v t s m e c) (lt : c < stop_of rows v) (w : Sought src rows s c t f s') where
+module _ {src : Source} {rows : List Node} {s₀ : List ℕ} {v t : ℕ} {s s' : List ℕ} {m e c : ℕ} {f : Front} (lv : v < 32) (inv : SpanInv src rows s₀ v t s m e c) (lt : c < stop_of rows v) (w : Sought src rows s c t f s') where
   -- the span goes on with the front at c
   span-step : kind_at rows v ≡ 2 → Good src rows → Ready src rows s₀
       → Ready src rows s' × (go_f f (λ x. span_from t (at_f (min m x.start) (max e x.end)) (left src rows v (next_of rows c))) ≡ look src rows v t)
@@ -131,7 +133,7 @@ module _ {src : Source} {rows s₀ : List ℕ} {v t : ℕ} {s s' : List ℕ} {m 
     seen = λ good rdy. let i = span-step k good rdy in record { is = er ∙ (sym (go-none f (λ x. span_from t (at_f (min m x.start) (max e x.end)) (left src rows v (next_of rows c))) n) ∙ i.1); ready = i.0 };
   }
 
-pub span-end : {src : Source} {rows s₀ : List ℕ} {v t : ℕ} {s : List ℕ} {m e c : ℕ} {r : Front} → SpanInv src rows s₀ v t s m e c → stop_of rows v ≤ c → r ≡ at_f m e → kind_at rows v ≡ 2
+pub span-end : {src : Source} {rows : List Node} {s₀ : List ℕ} {v t : ℕ} {s : List ℕ} {m e c : ℕ} {r : Front} → SpanInv src rows s₀ v t s m e c → stop_of rows v ≤ c → r ≡ at_f m e → kind_at rows v ≡ 2
     → Looked src rows s₀ v t r s
 unfolding span_from
 span-end {src} {rows} {s₀} {v} {t} {s} {m} {e} {c} inv le er k = record {
@@ -141,10 +143,10 @@ span-end {src} {rows} {s₀} {v} {t} {s} {m} {e} {c} inv le er k = record {
 -- ── row and then: a chain ──
 
 -- whether the node's chain is tight
-abbrev pub tight_at : List ℕ → ℕ → Bool
+abbrev pub tight_at : List Node → ℕ → Bool
 tight_at rows v = eqb (kind_at rows v) 3
 
-module _ {src : Source} {rows s s₁ : List ℕ} {v t : ℕ} {a : Front} (lv : v < 32) (some : v + 1 < stop_of rows v) (w : Sought src rows s (v + 1) t a s₁) where
+module _ {src : Source} {rows : List Node} {s s₁ : List ℕ} {v t : ℕ} {a : Front} (lv : v < 32) (some : v + 1 < stop_of rows v) (w : Sought src rows s (v + 1) t a s₁) where
   -- a look begins with the first operand's front
   chain_first : chain_kind (kind_at rows v) ≡ true → Good src rows → Ready src rows s
       → Ready src rows s₁ × (go_f a (λ f. chain_from (tight_at rows v) f.start f.end (left src rows v (next_of rows (v + 1)))) ≡ look src rows v t)
@@ -175,14 +177,14 @@ module _ {src : Source} {rows s s₁ : List ℕ} {v t : ℕ} {a : Front} (lv : v
       (i.0, sym (go-some a (λ f. chain_from (tight_at rows v) f.start f.end (left src rows v (next_of rows (v + 1)))) one) ∙ i.1)
 
 -- the chain from m on has come to e; s₁ and e₁ are the state and the end where the loop began
-pub record ChainInv (src : Source) (rows s₁ : List ℕ) (v t m e₁ : ℕ) (s : List ℕ) (e c : ℕ) : Type 0 where
+pub record ChainInv (src : Source) (rows : List Node) (s₁ : List ℕ) (v t m e₁ : ℕ) (s : List ℕ) (e c : ℕ) : Type 0 where
   pub at : Good src rows → Ready src rows s₁ → chain_from (tight_at rows v) m e₁ (left src rows v (next_of rows (v + 1))) ≡ look src rows v t
       → Ready src rows s × (chain_from (tight_at rows v) m e (left src rows v c) ≡ look src rows v t)
 
-pub chain-start : {src : Source} {rows s : List ℕ} {v t m e c : ℕ} → c ≡ next_of rows (v + 1) → ChainInv src rows s v t m e s e c
+pub chain-start : {src : Source} {rows : List Node} {s : List ℕ} {v t m e c : ℕ} → c ≡ next_of rows (v + 1) → ChainInv src rows s v t m e s e c
 chain-start {src} {rows} {s} {v} {t} {m} {e} {c} ec = record { at = λ good rdy i. (rdy, ap (λ (n : ℕ). chain_from (tight_at rows v) m e (left src rows v n)) ec ∙ i) }
 
-module _ {src : Source} {rows s₁ : List ℕ} {v t m e₁ : ℕ} {s s' : List ℕ} {e c to : ℕ} {f : Front}
+module _ {src : Source} {rows : List Node} {s₁ : List ℕ} {v t m e₁ : ℕ} {s s' : List ℕ} {e c to : ℕ} {f : Front}
     (lv : v < 32) (inv : ChainInv src rows s₁ v t m e₁ s e c) (lt : c < stop_of rows v) (et : to ≡ past_of e) (w : Sought src rows s c to f s') where
   -- the chain goes on with the front at c
   chain-step : Good src rows → Ready src rows s₁ → chain_from (tight_at rows v) m e₁ (left src rows v (next_of rows (v + 1))) ≡ look src rows v t
@@ -211,7 +213,7 @@ module _ {src : Source} {rows s₁ : List ℕ} {v t m e₁ : ℕ} {s s' : List �
     chain-turn eb ec = record { at = λ good rdy i₁. let i = chain-over false eb good rdy i₁ in (i.0, ap (λ (n : ℕ). chain_from (tight_at rows v) m f.end (left src rows v n)) ec ∙ i.1) }
 
 -- the ways out of the chain, from the state at entry
-module _ {src : Source} {rows s₀ s₁ : List ℕ} {v t : ℕ} {a : Front} (lv : v < 32) (some : v + 1 < stop_of rows v) (w₀ : Sought src rows s₀ (v + 1) t a s₁) (one₀ : a.start < 65536)
+module _ {src : Source} {rows : List Node} {s₀ s₁ : List ℕ} {v t : ℕ} {a : Front} (lv : v < 32) (some : v + 1 < stop_of rows v) (w₀ : Sought src rows s₀ (v + 1) t a s₁) (one₀ : a.start < 65536)
     {s : List ℕ} {e c : ℕ} (inv : ChainInv src rows s₁ v t a.start a.end s e c) (k : chain_kind (kind_at rows v) ≡ true) where
   pub chain-end : {r : Front} → stop_of rows v ≤ c → r ≡ at_f a.start e → Looked src rows s₀ v t r s
   unfolding chain_from
@@ -245,14 +247,14 @@ module _ {src : Source} {rows s₀ s₁ : List ℕ} {v t : ℕ} {a : Front} (lv 
 -- ── The filters ──
 
 -- v's operands but the first
-rest-left : (src : Source) (rows : List ℕ) (v : ℕ) → v < 32 → v + 1 < stop_of rows v → others (operands_of (given src rows) rows v) ≡ left src rows v (next_of rows (v + 1))
+rest-left : (src : Source) (rows : List Node) (v : ℕ) → v < 32 → v + 1 < stop_of rows v → others (operands_of (given src rows) rows v) ≡ left src rows v (next_of rows (v + 1))
 rest-left src rows v lv some = ap others (left-more src rows v (v + 1) lv some)
 
 -- the test of a front, the other operands being ls
 abbrev tested : ℕ → Front → List (List Stretch) → Bool
 tested k a ls = verdict k (misses k ls a)
 
-module _ {src : Source} {rows : List ℕ} {v : ℕ} {a : Front} (lv : v < 32) (some : v + 1 < stop_of rows v) where
+module _ {src : Source} {rows : List Node} {v : ℕ} {a : Front} (lv : v < 32) (some : v + 1 < stop_of rows v) where
   pub test-max : {s : List ℕ} {n : ℕ} {r : Bool} → kind_at rows v ≡ 6 → n ≡ measured src (st a.start a.end) → r ≡ leb n (first_at rows v) → Tested src rows s v a r s
   test-max k en er = record {
     passed = λ good rdy. record {
@@ -291,7 +293,7 @@ module _ {src : Source} {rows : List ℕ} {v : ℕ} {a : Front} (lv : v < 32) (s
       unfolding first
       test-inner k w er = record { passed = λ good rdy. let g = w.found good rdy in by-other g.ready false k (er ∙ ap (λ (x : Front). verdict (kind_at rows v) (ltb a.end x.end)) g.is) }
 
-module _ {src : Source} {rows s s₁ : List ℕ} {v t : ℕ} {a : Front} (lv : v < 32) (some : v + 1 < stop_of rows v) (w : Sought src rows s (v + 1) t a s₁) where
+module _ {src : Source} {rows : List Node} {s s₁ : List ℕ} {v t : ℕ} {a : Front} (lv : v < 32) (some : v + 1 < stop_of rows v) (w : Sought src rows s (v + 1) t a s₁) where
   -- a look begins with the first operand's front
   filter-first : Filters (kind_at rows v) → Good src rows → Ready src rows s
       → Ready src rows s₁ × (go_f a (λ f. kept f (passes src (kind_at rows v) (first_at rows v) (others (operands_of (given src rows) rows v)) f)) ≡ look src rows v t)

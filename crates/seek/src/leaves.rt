@@ -7,7 +7,7 @@ ghost use Rattle.seek.specs.inner.Leaves.{Resumed, Ran, ListFound, RowFound};
 use crate::fronts::{at, none};
 use crate::{Front, STATE};
 use basics::wide;
-use nodes::{FIRST, SECOND, TABLE};
+use nodes::Nodes;
 
 // The front of one line; none from line 65,536 on.
 fn at_line(line: usize) -> Front
@@ -21,15 +21,14 @@ fn at_line(line: usize) -> Front
 }
 
 // The first marked line from t on of the row that the leaf's numbers name.
-pub(crate) fn seek_row(rows: &[usize; TABLE], words: &[u64], v: usize, t: u32) -> Front
+pub(crate) fn seek_row(rows: &Nodes, words: &[u64], v: usize, t: u32) -> Front
     requires { v < 32 }
     ensures { RowFound words.now (first_at rows.now v) (second_at rows.now v) t result }
 {
-    let f = row_search::next(words, rows[FIRST + v], rows[SECOND + v], t as usize);
-    if f.hit {
-        return at_line(f.line);
+    match row_search::next(words, rows[v].first, rows[v].second, t as usize) {
+        Some(line) => at_line(line),
+        None => none(),
     }
-    none()
 }
 
 fn hint_of(x: usize) -> u32 {
@@ -76,7 +75,7 @@ fn run(items: &[u32], p: usize, hi: usize, t: u32) -> usize
 
 // The first stretch from t on of the list that lies between the leaf's two places; none where it lies outside the items.
 pub(crate) fn seek_list(
-    rows: &[usize; TABLE],
+    rows: &Nodes,
     items: &[u32],
     st: &mut [u32; STATE],
     v: usize,
@@ -85,8 +84,8 @@ pub(crate) fn seek_list(
     requires { v < 32 }
     ensures { ListFound items.now (first_at rows.now v) (second_at rows.now v) t st.old result st.new }
 {
-    let lo = rows[FIRST + v];
-    let hi = rows[SECOND + v];
+    let lo = rows[v].first;
+    let hi = rows[v].second;
     if hi < lo {
         return none();
     }

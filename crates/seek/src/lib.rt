@@ -1,6 +1,6 @@
 // The search machine: over a table of nodes and what its leaves read, the first stretch of a node's list from a line on, or to a line.
 //
-// rows: the table, in five columns of 32: kind, size of the subtree, and the numbers. Kinds: 1 or, 2 and, 3 row, 4 then, 5 less,
+// rows: the table. Kinds: 1 or, 2 and, 3 row, 4 then, 5 less,
 // 6 max with its bound as first number, 7 in, 8 out, 9 has, 16 a row of marks with its first word and width, 17 a lent list with its places from and to.
 // words, items: what the leaves read; rows of marks, and starts and ends in turn.
 // sound: what `max` measures by, the row of the sound lines with its counts, as `ranks` has it; empty where lines are counted, as over lists.
@@ -15,7 +15,7 @@ mod machine;
 ghost use Rattle.seek.specs.Source.{source};
 ghost use Rattle.seek.specs.First.{FirstOf, ReachOf, Ahead};
 
-use nodes::{NODES, TABLE};
+use nodes::{NODES, Nodes};
 
 // The cells of the state.
 pub const STATE: usize = 192;
@@ -33,7 +33,7 @@ pub struct Front {
 // The first stretch of node v that starts at or after t, and none where there is none or no node v. The state serves the next call over the same
 // table and source; at first it is zeros. With a state that no such call left, or a list that is not fine, the front is free.
 pub fn first(
-    rows: &[usize; TABLE],
+    rows: &Nodes,
     words: &[u64],
     items: &[u32],
     sound: &[u64],
@@ -61,7 +61,7 @@ pub fn first(
 // The first stretch of node v that ends at or after line e, and none where there is none or no node v. The state is as for `first`; with a state that no such
 // call left, or a list that is not fine, the front is free.
 pub fn first_to(
-    rows: &[usize; TABLE],
+    rows: &Nodes,
     words: &[u64],
     items: &[u32],
     sound: &[u64],

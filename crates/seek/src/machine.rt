@@ -15,14 +15,14 @@ use crate::leaves::{seek_list, seek_row};
 use crate::{Front, NONE, STATE};
 use basics::{least, most};
 use nodes::{
-    AND, FIRST, HAS, IN, LIST, MARKS, MAX, OR, OUT, ROW, TABLE, THEN, is_chain, is_proof, next_of,
+    AND, HAS, IN, LIST, MARKS, MAX, Nodes, OR, OUT, ROW, THEN, is_chain, is_proof, next_of,
     stop_of,
 };
 
 // `or`: the best of the operands' fronts.
 #[cycle(searching)]
 fn seek_or(
-    rows: &[usize; TABLE],
+    rows: &Nodes,
     words: &[u64],
     items: &[u32],
     sound: &[u64],
@@ -47,7 +47,7 @@ fn seek_or(
 // `and`: the span of the operands' fronts from t on.
 #[cycle(searching)]
 fn span(
-    rows: &[usize; TABLE],
+    rows: &Nodes,
     words: &[u64],
     items: &[u32],
     sound: &[u64],
@@ -77,7 +77,7 @@ fn span(
 // `row` and `then`: the first operand's front from t on, then each next one's from past the one before. `row` is given up where one does not start there.
 #[cycle(searching)]
 fn chain(
-    rows: &[usize; TABLE],
+    rows: &Nodes,
     words: &[u64],
     items: &[u32],
     sound: &[u64],
@@ -88,7 +88,7 @@ fn chain(
     requires { (v < 32) × (v + 1 < stop_of rows.now v) }
     ensures { chain_kind (kind_at rows.now v) ≡ true → Looked (source words.now items.now sound.now) rows.now st.old v t result st.new }
 {
-    let tight = rows[v] == ROW;
+    let tight = rows[v].kind == ROW;
     let stop = stop_of(rows, v);
     let a = seek(rows, words, items, sound, st, v + 1, t);
     let s = a.start;
@@ -115,7 +115,7 @@ fn chain(
 // The first stretch of v that ends at or after e: front by front from where v was passed over, so B of a filter moves forward only.
 #[cycle(searching)]
 pub(crate) fn reach(
-    rows: &[usize; TABLE],
+    rows: &Nodes,
     words: &[u64],
     items: &[u32],
     sound: &[u64],
@@ -165,7 +165,7 @@ fn keeps(kind: usize, missed: bool) -> bool
 // Whether a front of v's first operand passes the test of v's kind.
 #[cycle(searching)]
 fn passes(
-    rows: &[usize; TABLE],
+    rows: &Nodes,
     words: &[u64],
     items: &[u32],
     sound: &[u64],
@@ -176,9 +176,9 @@ fn passes(
     requires { (v < 32) × (v + 1 < stop_of rows.now v) }
     ensures { Tested (source words.now items.now sound.now) rows.now st.old v a result st.new }
 {
-    let kind = rows[v];
+    let kind = rows[v].kind;
     if kind == MAX {
-        return measure(sound, a) <= rows[FIRST + v];
+        return measure(sound, a) <= rows[v].first;
     }
     let other = next_of(rows, v + 1);
     if stop_of(rows, v) <= other {
@@ -195,7 +195,7 @@ fn passes(
 // The filters: the first operand's front from t on, good where it passes the test.
 #[cycle(searching)]
 fn filter(
-    rows: &[usize; TABLE],
+    rows: &Nodes,
     words: &[u64],
     items: &[u32],
     sound: &[u64],
@@ -219,7 +219,7 @@ fn filter(
 // What an operator but `or` offers first from t on.
 #[cycle(searching)]
 fn look_at(
-    rows: &[usize; TABLE],
+    rows: &Nodes,
     words: &[u64],
     items: &[u32],
     sound: &[u64],
@@ -233,7 +233,7 @@ fn look_at(
     if stop_of(rows, v) <= v + 1 {
         return none();
     }
-    let kind = rows[v];
+    let kind = rows[v].kind;
     if kind == AND {
         return span(rows, words, items, sound, st, v, t);
     }
@@ -260,7 +260,7 @@ fn settles(kind: usize, end: u32) -> bool
 // A look that is no good is not better than none.
 #[cycle(searching)]
 fn advance(
-    rows: &[usize; TABLE],
+    rows: &Nodes,
     words: &[u64],
     items: &[u32],
     sound: &[u64],
@@ -271,7 +271,7 @@ fn advance(
     requires { (v < 32) × (1 < kind_at rows.now v) }
     ensures { kind_at rows.now v < 10 → Sought (source words.now items.now sound.now) rows.now st.old v t result st.new }
 {
-    let kind = rows[v];
+    let kind = rows[v].kind;
     let mut best = none();
     let mut from = t;
     while from < NONE {
@@ -308,7 +308,7 @@ fn has_looks(kind: usize) -> bool
 // The front of v of which nothing that serves is kept, by its kind. A kind that no list and no operator has finds none.
 #[cycle(searching)]
 fn fresh(
-    rows: &[usize; TABLE],
+    rows: &Nodes,
     words: &[u64],
     items: &[u32],
     sound: &[u64],
@@ -319,7 +319,7 @@ fn fresh(
     requires { v < 32 }
     ensures { Sought (source words.now items.now sound.now) rows.now st.old v t result st.new }
 {
-    let kind = rows[v];
+    let kind = rows[v].kind;
     if kind == MARKS {
         return seek_row(rows, words, v, t);
     }
@@ -338,7 +338,7 @@ fn fresh(
 // The front of v, found anew and kept.
 #[cycle(searching)]
 fn renew(
-    rows: &[usize; TABLE],
+    rows: &Nodes,
     words: &[u64],
     items: &[u32],
     sound: &[u64],
@@ -357,7 +357,7 @@ fn renew(
 // Brings node v to its first stretch that starts at or after t. What is kept of it serves where it can.
 #[cycle(searching)]
 pub(crate) fn seek(
-    rows: &[usize; TABLE],
+    rows: &Nodes,
     words: &[u64],
     items: &[u32],
     sound: &[u64],

@@ -9,7 +9,9 @@ use lib.Seq.{drop-drop, drop-set-lt}
 use lib.Dec.{ltb}
 use borrow.Author.Tests.{ltb-true, ltb-false, lt-ltb, le-ltb}
 use Rattle.basics.proofs.Basics.{cases}
-use Rattle.stretches.specs.Stretch.{Stretch, st}
+use Rattle.stretches.specs.declared.Node.{Node}
+use Rattle.stretches.specs.declared.Stretch.{Stretch}
+use Rattle.stretches.specs.Stretch.{st}
 use Rattle.stretches.specs.Filling.{pairs_in, written, more_after}
 use Rattle.stretches.proofs.Filling.{drop-step, Partly, partly_more, partly-done, partly-all}
 use Rattle.seek.specs.declared.Front.{Front}
@@ -23,10 +25,10 @@ use Rattle.walk.specs.inner.Walks.{PassedOver, Put}
 
 -- ── Answers passed over ──
 
-pub over-start : {src : Source} {rows s : List ℕ} {t : ℕ} → PassedOver src rows s t 0 t s
+pub over-start : {src : Source} {rows : List Node} {s : List ℕ} {t : ℕ} → PassedOver src rows s t 0 t s
 over-start = record { ready = λ good rdy. rdy; rest = λ good rdy. refl }
 
-module _ {src : Source} {rows s₀ s : List ℕ} {t₀ t n : ℕ} (inv : PassedOver src rows s₀ t₀ n t s) {f : Front} {s' : List ℕ} (g : FirstOf src rows s 0 t f s') where
+module _ {src : Source} {rows : List Node} {s₀ s : List ℕ} {t₀ t n : ℕ} (inv : PassedOver src rows s₀ t₀ n t s) {f : Front} {s' : List ℕ} (g : FirstOf src rows s 0 t f s') where
   pub over-turn : f.start < 65536 → PassedOver src rows s₀ t₀ (n + 1) (f.start + 1) s'
   over-turn one = record {
     ready = λ good rdy. step-ready g good (inv.ready good rdy);
@@ -46,17 +48,17 @@ module _ {src : Source} {rows s₀ s : List ℕ} {t₀ t n : ℕ} (inv : PassedO
         e ∙ sym (drop_of_length-le (rest src rows t₀) {i = m} (omega arith));
   }
 
-pub over_done : {src : Source} {rows s₀ s : List ℕ} {t₀ t n m : ℕ} → PassedOver src rows s₀ t₀ n t s → n ≡ m → PassedOver src rows s₀ t₀ m t s
+pub over_done : {src : Source} {rows : List Node} {s₀ s : List ℕ} {t₀ t n m : ℕ} → PassedOver src rows s₀ t₀ n t s → n ≡ m → PassedOver src rows s₀ t₀ m t s
 over_done {src} {rows} {s₀} {s} {t₀} {t} inv e = subst (λ (k : ℕ). PassedOver src rows s₀ t₀ k t s) e inv
 
 -- ── Answers written into cells ──
 
 -- n of the answers from line t₀ on are written, and the next is sought from line t
-pub record PutInv (src : Source) (rows s₀ : List ℕ) (t₀ : ℕ) (cells₀ s : List ℕ) (t n : ℕ) (cells : List ℕ) : Type 0 where
+pub record PutInv (src : Source) (rows : List Node) (s₀ : List ℕ) (t₀ : ℕ) (cells₀ s : List ℕ) (t n : ℕ) (cells : List ℕ) : Type 0 where
   pub over : PassedOver src rows s₀ t₀ n t s
   pub partly : Good src rows → Ready src rows s₀ → Partly (rest src rows t₀) n cells₀ cells
 
-pub put-start : {src : Source} {rows s : List ℕ} {t : ℕ} {cells : List ℕ} → PutInv src rows s t cells s t 0 cells
+pub put-start : {src : Source} {rows : List Node} {s : List ℕ} {t : ℕ} {cells : List ℕ} → PutInv src rows s t cells s t 0 cells
 put-start = record { over = over-start; partly = λ good rdy. record { some = omega arith; wrote = refl } }
 
 -- whatever is written lies before 2 n
@@ -79,7 +81,7 @@ module _ (l : List Stretch) (n : ℕ) (cells₀ cells : List ℕ) (p : Partly l 
   filling-full : n < length l → n ≡ pairs_in cells₀ → Filling l 0 cells₀ (record { count = n; more = true }) cells
   filling-full more full = filling-is true (ap (λ (k : ℕ). take k l) (sym full)) (sym (lt-ltb (0 + n) (length l) (omega arith)))
 
-module _ {src : Source} {rows s₀ : List ℕ} {t₀ : ℕ} {cells₀ s : List ℕ} {t n : ℕ} {cells : List ℕ} (inv : PutInv src rows s₀ t₀ cells₀ s t n cells)
+module _ {src : Source} {rows : List Node} {s₀ : List ℕ} {t₀ : ℕ} {cells₀ s : List ℕ} {t n : ℕ} {cells : List ℕ} (inv : PutInv src rows s₀ t₀ cells₀ s t n cells)
     {f : Front} {s' : List ℕ} (g : FirstOf src rows s 0 t f s') where
   pub put-turn : f.start < 65536 → 2 * n + 2 ≤ length cells₀ → PutInv src rows s₀ t₀ cells₀ s' (f.start + 1) (n + 1) (set (set cells (2 * n) f.start) (2 * n + 1) f.end)
   put-turn one room = record {
@@ -117,7 +119,7 @@ more-after l f cells =
     (λ k. lt-ltb (0 + length (written l f cells)) (length (drop f l)) (omega (arith, ltb-true (f + length (written l f cells)) (length l) k)))
     (λ k. le-ltb (0 + length (written l f cells)) (length (drop f l)) (omega (arith, ltb-false (f + length (written l f cells)) (length l) k)))
 
-pub filled-all : {src : Source} {rows : List ℕ} {line f t : ℕ} {s : List ℕ} {cells : List ℕ} {w : Walked} {cells' : List ℕ}
+pub filled-all : {src : Source} {rows : List Node} {line f t : ℕ} {s : List ℕ} {cells : List ℕ} {w : Walked} {cells' : List ℕ}
     → PassedOver src rows (replicate 192 0) line f t s → Put src rows s t cells w cells' → FillAll src rows line f cells w cells'
 filled-all {src} {rows} {line} {f} {t} {s} {cells} {w} {cells'} a b = record {
   fills = λ good.

@@ -6,7 +6,7 @@ ghost use Rattle.seek.specs.Source.{source};
 ghost use Rattle.walk.specs.inner.Walks.{PassedOver, Put};
 ghost use Rattle.walk.specs.Filling.{FillAll, Within};
 
-use nodes::TABLE;
+use nodes::Nodes;
 use seek::{NONE, STATE};
 
 // How many stretches were written, and whether a further answer exists.
@@ -18,7 +18,7 @@ pub struct Walked {
 
 // Passes over n answers from line t0 on: the line from which the next is sought.
 fn pass_over(
-    rows: &[usize; TABLE],
+    rows: &Nodes,
     words: &[u64],
     items: &[u32],
     sound: &[u64],
@@ -44,7 +44,7 @@ fn pass_over(
 
 // Writes the answers from line t0 on into the cells, as many as whole pairs fit.
 fn put_all(
-    rows: &[usize; TABLE],
+    rows: &Nodes,
     words: &[u64],
     items: &[u32],
     sound: &[u64],
@@ -89,7 +89,7 @@ fn put_all(
 // Writes the answers of node 0 that start at or after `line`, from number `from` of them on, into the cells, start then end, as many as whole pairs
 // fit; later cells keep their contents. With a list that is not fine some stretches are written, no more than fit.
 pub fn fill(
-    rows: &[usize; TABLE],
+    rows: &Nodes,
     words: &[u64],
     items: &[u32],
     sound: &[u64],

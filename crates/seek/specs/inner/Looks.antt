@@ -1,6 +1,8 @@
 -- What a look at a node's operands finds. Private contracts cite this. Assumes nothing.
 use Rattle.std.specs.Prelude.{ℕ, ◌<◌, min, max, ◌≡◌, ◌⊎◌, Bool, true, false, not, cond, ◌&&◌, List, [], ◌∷◌, leb, ltb, eqb}
-use Rattle.stretches.specs.Stretch.{Stretch, st}
+use Rattle.stretches.specs.declared.Node.{Node}
+use Rattle.stretches.specs.declared.Stretch.{Stretch}
+use Rattle.stretches.specs.Stretch.{st}
 use Rattle.stretches.specs.Front.{first_from, first_to}
 use Rattle.stretches.specs.Table.{kind_at, first_at, holder_kind, proof_kind}
 use Rattle.stretches.specs.inner.Operands.{operands_of}
@@ -10,11 +12,11 @@ use Rattle.seek.specs.First.{at_f, none_f, front, first, reach, Ready, Found}
 use Rattle.seek.specs.inner.Fronts.{past_of, bad_f, kept, go_f}
 
 -- node v was sought from t with the state at s, which is left at s'
-pub record Sought (src : Source) (rows s : List ℕ) (v t : ℕ) (r : Front) (s' : List ℕ) : Type 0 where
+pub record Sought (src : Source) (rows : List Node) (s : List ℕ) (v t : ℕ) (r : Front) (s' : List ℕ) : Type 0 where
   pub found : Good src rows → Ready src rows s → Found src rows (first src rows v t) r s'
 
 -- node v was sought for its first stretch that ends at or after e, with the state at s, which is left at s'
-pub record Reached (src : Source) (rows s : List ℕ) (v e : ℕ) (r : Front) (s' : List ℕ) : Type 0 where
+pub record Reached (src : Source) (rows : List Node) (s : List ℕ) (v e : ℕ) (r : Front) (s' : List ℕ) : Type 0 where
   pub found : Good src rows → Ready src rows s → Found src rows (reach src rows v e) r s'
 
 -- ── Looking at operands: what an operator offers first from t on, no good where it ends at line 65,536 ──
@@ -56,23 +58,23 @@ look_by src kind bound (l ∷ ls) t =
     (cond (eqb kind 4) (go_f (front (first_from l t)) (λ f. chain_from false f.start f.end ls))
     (go_f (front (first_from l t)) (λ f. kept f (passes src kind bound ls f)))))
 
-unfoldable pub look : Source → List ℕ → ℕ → ℕ → Front
+unfoldable pub look : Source → List Node → ℕ → ℕ → Front
 look src rows v t = look_by src (kind_at rows v) (first_at rows v) (operands_of (given src rows) rows v) t
 
-pub record Seen (src : Source) (rows : List ℕ) (v t : ℕ) (r : Front) (s' : List ℕ) : Type 0 where
+pub record Seen (src : Source) (rows : List Node) (v t : ℕ) (r : Front) (s' : List ℕ) : Type 0 where
   pub is : r ≡ look src rows v t
   pub ready : Ready src rows s'
 
 -- node v's operands were looked at
-pub record Looked (src : Source) (rows s : List ℕ) (v t : ℕ) (r : Front) (s' : List ℕ) : Type 0 where
+pub record Looked (src : Source) (rows : List Node) (s : List ℕ) (v t : ℕ) (r : Front) (s' : List ℕ) : Type 0 where
   pub seen : Good src rows → Ready src rows s → Seen src rows v t r s'
 
-pub record Passed (src : Source) (rows : List ℕ) (v : ℕ) (a : Front) (r : Bool) (s' : List ℕ) : Type 0 where
+pub record Passed (src : Source) (rows : List Node) (v : ℕ) (a : Front) (r : Bool) (s' : List ℕ) : Type 0 where
   pub is : r ≡ passes src (kind_at rows v) (first_at rows v) (others (operands_of (given src rows) rows v)) a
   pub ready : Ready src rows s'
 
 -- a front of v's first operand was tested
-pub record Tested (src : Source) (rows s : List ℕ) (v : ℕ) (a : Front) (r : Bool) (s' : List ℕ) : Type 0 where
+pub record Tested (src : Source) (rows : List Node) (s : List ℕ) (v : ℕ) (a : Front) (r : Bool) (s' : List ℕ) : Type 0 where
   pub passed : Good src rows → Ready src rows s → Passed src rows v a r s'
 
 -- ── The operators by their shape ──

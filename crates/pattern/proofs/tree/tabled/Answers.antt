@@ -1,10 +1,14 @@
--- `tabled`: five columns placed over zeros are joined.
+-- `tabled`: one node more a turn.
 -- Assumes nothing.
-use mathlib.Core.Path.{refl}
-use Rattle.pattern.proofs.Columns.{joined-columns}
+use Rattle.std.proofs.Common.{◌∙◌, refl, arith, length-set, get_or-set_other, get_or-set_same, below_more}
+use Rattle.stretches.specs.Table.{no_node}
 use Rattle.pattern.proofs.tree.tabled.Goals as goal
 
+pub loop-v-preserved : goal.loop-v-preserved
+loop-v-preserved c = let l = c.loop-v in (
+  length-set l.rows l.v _ ∙ l.invariant.0,
+  below_more _ _ (λ k h. get_or-set_other l.rows l.v k _ no_node (omega arith) ∙ l.invariant.1 k h) (get_or-set_same l.rows l.v _ no_node (omega arith)),
+)
+
 pub returns : goal.returns
-returns c = let a = c.args in
-    let p = c.requires in
-    (refl, joined-columns a.kind a.size a.first a.second a.third _ _ _ _ _ p.0 p.1.0 p.1.1.0 p.1.1.1.0 p.1.1.1.1 c.put_column.ensures.0 c.put_column-2.ensures.0 c.put_column-3.ensures.0 c.put_column-4.ensures.0 c.put_column-5.ensures.0)
+returns c = record { counted = refl; long = c.loop-v.invariant.0; each = λ v h. c.loop-v.invariant.1 v (omega arith) }

@@ -4,8 +4,9 @@ use Rattle.stretches.specs.Table.{first_at, second_at}
 use Rattle.seek.proofs.LeafLaws.{row-missed, row-there}
 use Rattle.seek.proofs.leaves.seek_row.Goals as goal
 
-pub returns-then-f : goal.returns-then-f
-returns-then-f c = let a = c.args in row-there a.words.now (first_at a.rows.now a.v) (second_at a.rows.now a.v) a.t c.next-f.result c.next-f.ensures c.if-f.true c.at_line.ensures
+pub returns-in-Some : goal.returns-in-Some
+returns-in-Some c = let a = c.args in
+    row-there a.words.now (first_at a.rows.now a.v) (second_at a.rows.now a.v) a.t c.in-Some.line c.in-Some.ensures c.at_line.ensures
 
-pub returns : goal.returns
-returns c = let a = c.args in row-missed a.words.now (first_at a.rows.now a.v) (second_at a.rows.now a.v) a.t c.next-f.result c.next-f.ensures c.if-f.false c.none.ensures
+pub returns-in-None : goal.returns-in-None
+returns-in-None c = let a = c.args in row-missed a.words.now (first_at a.rows.now a.v) (second_at a.rows.now a.v) a.t c.in-None.ensures c.none.ensures
