@@ -1,6 +1,6 @@
 -- The order of lent lists: what the reader of a list finds at each stretch, and that lists which are not refused rise, are sound and end below 65,536.
 -- A list is read with the least start and end that its next stretch may have, one past those before. Assumes nothing.
-use Prim.Native.Nat.{ℕ, suc, ◌+◌, ◌≤◌, ◌<◌}
+use Prim.Native.Nat.{ℕ, suc, ◌≤◌, ◌<◌}
 use mathlib.Core.Path.{◌≡◌, refl, sym, ap, ap₂, ◌∙◌}
 use mathlib.Core.Logic.{◌⊎◌, inl, inr}
 use mathlib.Core.Bool.{Bool, true, false, ◌||◌}

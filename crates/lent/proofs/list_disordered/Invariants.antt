@@ -1,5 +1,5 @@
 -- `list_disordered` meets its contract. The loop's invariant: with the least start and end, and the numbers that are left, the list is as it was at first. Assumes nothing.
-use Rattle.std.proofs.Common.{◌≡◌, ◌≤◌, length}
+use Rattle.std.proofs.Common.{◌≡◌, length}
 use Rattle.stretches.specs.Lent.{pairs}
 use Rattle.meaning.specs.Refusals.{disordered_list}
 use Rattle.lent.proofs.Ordering.{unrisen}
