@@ -58,7 +58,7 @@ impl<'a> Searched<'a> {
         requires { v < 32 }
         ensures { RowFound self.now.words.now (first_at self.now.rows.now v) (second_at self.now.rows.now v) t result }
     {
-        let row = self.rows[v];
+        let row = &self.rows[v];
         match row_search::next(self.words, row.first, row.second, t as usize) {
             Some(line) => at_line(line),
             None => GONE,
