@@ -7,16 +7,16 @@ ghost use Rattle.plan.specs.Marks.{Marks};
 ghost use Rattle.plan.specs.inner.Room.{Roomy};
 
 use crate::{FEW, FEW_SOUND, FEW_WORDS, SOUND, WORDS, prepare, sound_words, width};
-use nodes::TABLE;
+use nodes::Nodes;
 
 // With this many words for the rows, and for the row of the sound lines with its counts.
 fn run_in<
     const WORDS: usize,
     const SOUND: usize,
     R,
-    F: FnOnce(&[usize; TABLE], &[u64], &[u32], &[u64], &mut [u32]) -> R,
+    F: FnOnce(&Nodes, &[u64], &[u32], &[u64], &mut [u32]) -> R,
 >(
-    rows: &[usize; TABLE],
+    rows: &Nodes,
     log: &[u8],
     width: usize,
     cells: &mut [u32],
@@ -35,13 +35,13 @@ fn run_in<
 }
 
 // Marks the log's lines, and runs over the marks: in a log of few lines 32 KiB of words, and in one of any number 240 KiB.
-pub fn with_marks<R, F: FnOnce(&[usize; TABLE], &[u64], &[u32], &[u64], &mut [u32]) -> R>(
-    rows: &[usize; TABLE],
+pub fn with_marks<R, F: FnOnce(&Nodes, &[u64], &[u32], &[u64], &mut [u32]) -> R>(
+    rows: &Nodes,
     log: &[u8],
     cells: &mut [u32],
     run: F,
 ) -> R
-    requires brief { (length rows.now ≡ 160) × (length log.now ≤ 61440) }
+    requires brief { (length rows.now ≡ 32) × (length log.now ≤ 61440) }
     requires runs { (t : _) (w : _) (i : _) (s : _) (c : _) → Marks rows.now log.now (source w.now i.now s.now) t.now → F.pre run t w i s c }
     ensures { (t : _) × (w : _) × (i : _) × (s : _) × (c : _) × (d : _) × Marks rows.now log.now (source w.now i.now s.now) t.now × (c.now ≡ cells.old) × F.post run t w i s c result d × (d.now ≡ cells.new) }
 {
