@@ -32,7 +32,8 @@ use Rattle.records.specs.Leaf.{code_is, frame_is}
 use Rattle.meaning.specs.Meaning.{hits, measure_in, over_table, table_in}
 use Rattle.meaning.proofs.Run.{says-few}
 use Rattle.meaning.proofs.Table.{table-in}
-use Rattle.seek.specs.Source.{Source, source, lent, own_list, measured_by, given, list_over, Good}
+use Rattle.seek.specs.declared.Searched.{Searched}
+use Rattle.seek.specs.Source.{Source, source, source_of, lent, own_list, measured_by, given, list_over, Good}
 use Rattle.folding.specs.Fold.{Folding, folding, made_row, folded}
 use Rattle.folding.proofs.FoldLeaf.{Before}
 use Rattle.folding.proofs.FoldLaws.{Single, fold-lists, fold-good}
@@ -272,22 +273,23 @@ module _ (rows : List Node) (log : List ℕ) (w : ℕ) (words sound : List ℕ) 
     pub sound-again : n ≡ length read
     sound-again = sym (ap length (take_at kept (drop n sound) n kept-length) ∙ kept-length)
 
-    -- every node's list
-    pub machine-marks : Marks rows log (source words' [] read) t
-    machine-marks =
+    -- every node's list, in what is searched
+    pub machine-marks : {s : Searched} → s.rows.now ≡ t → source_of s ≡ source words' [] read → Marks rows log s
+    machine-marks {s} es er =
         let lines : length (says log) ≤ 64 * w = omega (arith, h.1) in
         let narrow : w ≤ 1024 = omega (arith, h.2) in
         let room = room-enough rows w (length words) h.3 in
         let fits = sym sound-room ∙ e.0 in
         let made : Source = source (prepared rows log w words).words [] (sound_marked (says log) (take n sound)) in
-        let same : source words' [] read ≡ made =
-        ap₂ (λ (x y : List ℕ). source x [] y) ew (take_at kept (drop n sound) n kept-length ∙ ek ∙ sound-made rows log w words (take n sound) h.0 narrow lines room fits) in record {
-          good = subst (λ (x : Source). Good x t) (sym same) (subst (Good made) (sym et) (prepared-good rows log w words (take n sound) h.0 narrow lines room fits));
-          lists = λ v. ap₂ (λ (x : Source) (y : List ℕ). list_over x y v) same et ∙ prepared-lists rows log w words (take n sound) h.0 narrow lines room fits v;
+        let table : s.rows.now ≡ (prepared rows log w words).rows = es ∙ et in
+        let same : source_of s ≡ made =
+        er ∙ ap₂ (λ (x y : List ℕ). source x [] y) ew (take_at kept (drop n sound) n kept-length ∙ ek ∙ sound-made rows log w words (take n sound) h.0 narrow lines room fits) in record {
+          good = subst (λ (x : Source). Good x s.rows.now) (sym same) (subst (Good made) (sym table) (prepared-good rows log w words (take n sound) h.0 narrow lines room fits));
+          lists = λ v. ap₂ (λ (x : Source) (y : List Node). list_over x y v) same table ∙ prepared-lists rows log w words (take n sound) h.0 narrow lines room fits v;
         }
 
 -- the first node's list is the table's
-pub marks-first : {rows : List Node} {log : List ℕ} {src : Source} {t : List Node} → Marks rows log src t → list_over src t 0 ≡ table_in rows log
+pub marks-first : {rows : List Node} {log : List ℕ} {s : Searched} → Marks rows log s → list_over (source_of s) s.rows.now 0 ≡ table_in rows log
 marks-first {rows} {log} m = m.lists 0 ∙ sym (table-in rows log)
 
 -- a log that is not too long has rows of at most 960 words
