@@ -2,16 +2,16 @@
 use Prim.Native.Nat.{ℕ, zero, suc, ◌+◌, ◌-◌, ◌*◌, ◌≤◌, ◌<◌}
 use mathlib.Core.Path.{◌≡◌, refl, sym, ap, ap₂, subst, ◌∙◌}
 use mathlib.Core.Logic.{◌⊎◌, inl, inr}
-use mathlib.Core.Bool.{Bool, true, false, not, cond, ◌&&◌}
+use mathlib.Core.Bool.{Bool, true, false, cond, ◌&&◌}
 use mathlib.Core.List.{List, [], ◌∷◌, ◌++◌, map, append_assoc}
 use native.Mathlib.Omega.{arith}
-use native.Mathlib.Nat.{suc-mul, mul-le-mul_right, zero-add}
+use native.Mathlib.Nat.{suc-mul, mul-le-mul_right}
 use lib.ListN.{length, get_or, take, drop, replicate, length-map}
 use lib.Seq.{take_at, drop_at, drop-drop, length-take-le, take_all}
 use Rattle.std.proofs.lemmas.List.{get_or-map}
 use lib.Dec.{leb, ltb, eqb}
-use borrow.Author.Tests.{le-leb, lt-ltb, leb-true, eqb-true, eqb-false, not-true, not-false}
-use Rattle.basics.proofs.Basics.{cases, true-or-false, true-and, and-true, or-false, le-or-lt}
+use borrow.Author.Tests.{le-leb, lt-ltb, leb-true, eqb-false}
+use Rattle.basics.proofs.Basics.{cases, true-or-false, true-and, and-true, or-false}
 use Rattle.stretches.specs.declared.Stretch.{Stretch}
 use Rattle.stretches.specs.Stretch.{st, Fine, marks}
 use Rattle.stretches.specs.Operators.{operator_of, apply}

@@ -7,12 +7,11 @@ ghost use Rattle.plan.specs.Plan.{width_of, plan_node, planned, has_max, sound_w
 
 mod room;
 
-pub use room::with_marks;
-
 use leaves::{Leaf, Leaves};
 use marking::mark;
 use marks::{WIDEST, fit};
-use nodes::{MARKS, MAX, NODES, NO_NODE, Node, Nodes, is_leaf};
+use nodes::{MARKS, MAX, NO_NODE, NODES, Node, Nodes, is_leaf};
+pub use room::with_marks;
 
 // The words of a row in a log of few lines, and of all rows then; and of all rows in any log.
 pub const FEW: usize = 128;
@@ -44,7 +43,11 @@ fn has_max(rows: &Nodes) -> bool
 pub fn sound_words(rows: &Nodes, width: usize) -> usize
     ensures { (result ≡ sound_words rows.now width) × (result ≤ width + width) }
 {
-    if width <= WIDEST && has_max(rows) { width + width } else { 0 }
+    if width <= WIDEST && has_max(rows) {
+        width + width
+    } else {
+        0
+    }
 }
 
 // A leaf becomes the row of its number.
