@@ -5,7 +5,7 @@ ghost use Rattle.pattern.specs.Kinds.{kinds};
 ghost use Rattle.pattern.specs.Automaton.{next, number, shut, word_end, letter, first_field, with_value, number_end, step};
 ghost use Rattle.pattern.specs.inner.Scanner.{Bounded, Piece, final, end_of};
 
-use super::alphabet::{KINDS, arity, field_count, kind_in, live, low, next};
+use super::alphabet::{arity, field_count, kind_in, live, low, next};
 use super::{Slot, State, Step};
 use digits::Chart;
 use nodes::{NO_NODE, Node};
@@ -59,10 +59,7 @@ fn letter(row: usize, read: usize, b: u8, need: usize) -> Option<Step>
     requires { (row < length kinds) × ((1 ≤ need) × ((need ≤ 1000000) × (read ≤ 1000000))) }
     ensures { result ≡ letter (next row read b) read b need }
 {
-    let row = next(row, read, b);
-    if KINDS <= row {
-        return None;
-    }
+    let row = next(row, read, b)?;
     if b == b',' {
         return word_end(kind_in(row), need);
     }
