@@ -10,7 +10,8 @@ use super::{Slot, State, Step};
 use digits::Chart;
 use nodes::{NO_NODE, Node};
 
-// Digits of a number, if they start one of the field.
+// Digits of a number, if they start one of the field. Inlined, since a call for each digit is a quarter of a text's reading.
+#[inline]
 fn number(slot: Slot, value: usize) -> Option<Step>
     requires { (value ≤ 1000000) × (slot.field ≤ 2) }
     ensures { result ≡ number slot value }
