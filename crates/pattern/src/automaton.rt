@@ -19,7 +19,7 @@ fn number(slot: Slot, value: usize) -> Option<Step>
     live(slot.kind, slot.field, value).then_some(Step::Within(State::Digits(slot, value)))
 }
 
-// A comma after a whole node.
+// A comma after a whole symbol.
 fn shut(node: Node, need: usize) -> Option<Step>
     requires { (1 ≤ need) × ((need ≤ 1000000) × (node.first ≤ 1000000)) }
     ensures { result ≡ shut node need }
