@@ -3,6 +3,8 @@ use Rattle.std.specs.Prelude.{ℕ, Bool, false, Result, Ok, Err}
 use Rattle.meaning.specs.declared.Refusal.{Refusal}
 use Rattle.meaning.specs.declared.Refusal.TheVariants.{LongLog, LongPattern, Misspelt, Crowded, Deep, Miscalled, Miscut, Disordered, BadCount}
 use Rattle.meaning.specs.declared.Filled.{Filled}
+use Rattle.pattern.specs.declared.Refusal as pattern
+use Rattle.pattern.specs.declared.Refusal.TheVariants as pattern_says
 use Rattle.meaning.specs.Refusals.{Signal, refused, accepted}
 
 -- ── A refusal's number, and its place: 0 but of a misspelt pattern ──
@@ -28,6 +30,13 @@ place_of Miscalled = 0
 place_of Miscut = 0
 place_of Disordered = 0
 place_of BadCount = 0
+
+-- the refusal of a pattern among those of the calls
+abbrev pub told : pattern.Refusal → Refusal
+told pattern_says.Long = LongPattern
+told (pattern_says.Misspelt n) = Misspelt n
+told pattern_says.Crowded = Crowded
+told pattern_says.Deep = Deep
 
 -- what a call that may be refused signals
 abbrev pub signal : {A : Type 0} → Result A Refusal → Signal

@@ -2,7 +2,7 @@
 #![tactic(auto)]
 
 ghost use Rattle.std.specs.Prelude.{◌≡◌};
-ghost use Rattle.meaning.specs.Replies.{number_of, place_of};
+ghost use Rattle.meaning.specs.Replies.{number_of, place_of, told};
 
 use std::error::Error;
 use std::fmt;
@@ -68,6 +68,20 @@ impl fmt::Display for Refusal {
 }
 
 impl Error for Refusal {}
+
+// A pattern's refusal is the call's.
+impl From<pattern::Refusal> for Refusal {
+    ghost from_gives = { λ r e. e ≡ told r };
+
+    fn from(r: pattern::Refusal) -> Refusal {
+        match r {
+            pattern::Refusal::Long => Refusal::LongPattern,
+            pattern::Refusal::Misspelt(place) => Refusal::Misspelt(place),
+            pattern::Refusal::Crowded => Refusal::Crowded,
+            pattern::Refusal::Deep => Refusal::Deep,
+        }
+    }
+}
 
 // What a filling call wrote: how many stretches, and whether a further answer exists.
 #[derive(Clone, Copy, Debug, PartialEq, Eq)]

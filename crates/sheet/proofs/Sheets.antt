@@ -31,7 +31,7 @@ use Rattle.marking.specs.Rows.{counted}
 use Rattle.input.specs.declared.Intake.{Intake}
 use Rattle.input.specs.Input.{pattern_of, log_of, Keeps}
 use Rattle.print.specs.Print.{field, rows, found_sheet, refused_sheet, shown, Writes}
-use Rattle.print.proofs.Decimals.{length-below}
+use Rattle.basics.proofs.Decimals.{decimal-short}
 use Rattle.print.proofs.Printed.{length-field, shown-flat}
 use Rattle.print.proofs.Written.{length_found, length-refused}
 use Rattle.sheet.specs.Sheet.{sheet_of, printed, printed_of}
@@ -108,7 +108,7 @@ keeps-sheet input t p l k h j = ap₂ printed k.pattern.bytes k.log.bytes ∙ cu
 -- ── Its length ──
 
 short-field : (n mark : ℕ) → n < 100000 → length (field n mark) ≤ 6
-short-field n mark h = omega (arith, length-field n mark, length-below 4 n (omega arith))
+short-field n mark h = omega (arith, length-field n mark, decimal-short 4 n (omega arith))
 
 short-rows : (l : List Stretch) → Sound l → Below 61440 l → length (rows l) ≤ 12 * length l
 unfolding rows
