@@ -16,7 +16,7 @@ pub(crate) fn measure(table: &mut Table) -> usize
         let node = table.rows[w];
         let mut c = w + 1;
         let mut d = 0;
-        for seen in 0..arity(node.kind, node.first) {
+        for _seen in 0..arity(node.kind, node.first) {
             d = longer(d, depth[c]);
             c += table.rows[c].size;
         }

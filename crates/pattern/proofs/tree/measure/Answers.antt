@@ -30,33 +30,33 @@ pub bounds-depth-c : goal.bounds-depth-c
 bounds-depth-c c = let z = c.requires in
     let l = c.loop-w in
     let i = c.loop-seen in
-    omega (arith, z.small, inner_below c.args.table.now z _ _ i.c i.d i.seen _ l.table l.depth (here (l.invariant z) c.loop-w-test.true) (i.invariant.3 z) c.loop-seen-test.true)
+    omega (arith, z.small, inner_below c.args.table.now z _ _ i.c i.d i._seen _ l.table l.depth (here (l.invariant z) c.loop-w-test.true) (i.invariant.3 z) c.loop-seen-test.true)
 
 pub bounds-table-c : goal.bounds-table-c
 bounds-table-c c = let z = c.requires in
     let l = c.loop-w in
     let i = c.loop-seen in
-    omega (arith, z.small, inner_below c.args.table.now z _ _ i.c i.d i.seen _ l.table l.depth (here (l.invariant z) c.loop-w-test.true) (i.invariant.3 z) c.loop-seen-test.true)
+    omega (arith, z.small, inner_below c.args.table.now z _ _ i.c i.d i._seen _ l.table l.depth (here (l.invariant z) c.loop-w-test.true) (i.invariant.3 z) c.loop-seen-test.true)
 
 pub overflow_add-c-in-loop-seen : goal.overflow_add-c-in-loop-seen
 overflow_add-c-in-loop-seen c = let z = c.requires in
     let l = c.loop-w in
     let i = c.loop-seen in
-    omega (arith, z.small, inner-sum c.args.table.now z _ _ i.c i.d i.seen _ l.table l.depth (here (l.invariant z) c.loop-w-test.true) (i.invariant.3 z) c.loop-seen-test.true)
+    omega (arith, z.small, inner-sum c.args.table.now z _ _ i.c i.d i._seen _ l.table l.depth (here (l.invariant z) c.loop-w-test.true) (i.invariant.3 z) c.loop-seen-test.true)
 
 pub loop-seen-preserved : goal.loop-seen-preserved
 loop-seen-preserved c = let t = c.args.table.now in
     let z = c.requires in
     let l = c.loop-w in
     let i = c.loop-seen in
-    let b = inner-bounds t z (suc (l.w - 1)) (l.w - 1) (i.c + (node_at l.table.rows i.c).size) c.longer-d.result (i.seen + 1) _ (inner-turn t z _ _ i.c i.d i.seen _ l.table l.depth (here (l.invariant z) c.loop-w-test.true) (i.invariant.3 z) c.loop-seen-test.true c.longer-d.result c.longer-d.ensures) in
-    (b.1, b.2, b.3, λ e. inner-turn t e _ _ i.c i.d i.seen _ l.table l.depth (here (l.invariant e) c.loop-w-test.true) (i.invariant.3 e) c.loop-seen-test.true c.longer-d.result c.longer-d.ensures)
+    let b = inner-bounds t z (suc (l.w - 1)) (l.w - 1) (i.c + (node_at l.table.rows i.c).size) c.longer-d.result (i._seen + 1) _ (inner-turn t z _ _ i.c i.d i._seen _ l.table l.depth (here (l.invariant z) c.loop-w-test.true) (i.invariant.3 z) c.loop-seen-test.true c.longer-d.result c.longer-d.ensures) in
+    (b.1, b.2, b.3, λ e. inner-turn t e _ _ i.c i.d i._seen _ l.table l.depth (here (l.invariant e) c.loop-w-test.true) (i.invariant.3 e) c.loop-seen-test.true c.longer-d.result c.longer-d.ensures)
 
 pub loop-w-preserved : goal.loop-w-preserved
 loop-w-preserved c = let t = c.args.table.now in
     let l = c.loop-w in
     let i = c.loop-seen in
-    λ e. outer-turn t e _ (l.w - 1) i.c i.d i.seen _ l.table l.depth (here (l.invariant e) c.loop-w-test.true) (i.invariant.3 e) c.loop-seen-test.false i.auto.seen-end
+    λ e. outer-turn t e _ (l.w - 1) i.c i.d i._seen _ l.table l.depth (here (l.invariant e) c.loop-w-test.true) (i.invariant.3 e) c.loop-seen-test.false i.auto._seen-end
 
 pub returns : goal.returns
 returns c = λ e. outer-done c.args.table.now e c.loop-w.w c.loop-w.table c.loop-w.depth (omega arith) (c.loop-w.invariant e)
