@@ -18,16 +18,16 @@ use Rattle.stretches.specs.Lent.{lists_of}
 use Rattle.stretches.specs.Taking as algorithm
 use Rattle.stretches.proofs.Incomparable.{fine-few}
 use Rattle.stretches.proofs.Taking.{nth_in, or-taken, and-taken}
-use Rattle.meaning.specs.declared.Filled.{Filled}
+use Rattle.meaning.specs.Replies.{FillReply}
 use Rattle.meaning.specs.Finding.{filling}
 use Rattle.stretches.proofs.Fine.{AllFine, fine-answers}
-use Rattle.meaning.specs.declared.Reply.{Reply}
+use Rattle.meaning.specs.Replies.{Reply}
 use Rattle.meaning.proofs.Bounds.{Small, refusal-small, pick_small, few-written, lowest-small}
 use Rattle.picks.specs.Picking.{picking}
 use Rattle.picks.proofs.Picking.{picked-few}
 use Rattle.witness.specs.Witness.{triples_in, shown_in, witnessing}
 use Rattle.witness.proofs.Laws.{shown-most}
-use Rattle.meaning.specs.Refusals.{Refusal, refused, miscalled, miscalled_taking, pick_refusal, lowest, lists_refusal, taking_refusal}
+use Rattle.meaning.specs.Refusals.{Signal, refused, miscalled, miscalled_taking, pick_refusal, lowest, lists_refusal, taking_refusal}
 use Rattle.taking.specs.declared.Taken.{Taken}
 use Rattle.lists.specs.Filling.{list_answers, wrote, not_filled, fill_result}
 use Rattle.taking.specs.Taking.{taken_by, taken_of, given, not_taken, take_result}
@@ -37,18 +37,18 @@ use Rattle.lent.proofs.Accepting.{accepted}
 -- ── Over a pattern and a log ──
 
 -- of a filling call
-pub filling-small : (pattern log : List ℕ) (f : ℕ) (cells : List ℕ) (r : Filled) → r ≡ filling pattern log f cells → (r.number ≤ 8) × (r.place ≤ 1024) × (r.count ≤ 65536)
+pub filling-small : (pattern log : List ℕ) (f : ℕ) (cells : List ℕ) (r : FillReply) → r ≡ filling pattern log f cells → (r.number ≤ 8) × (r.place ≤ 1024) × (r.count ≤ 65536)
 filling-small pattern log f cells r e =
     let s = refusal-small pattern log in (
-      omega (arith, ap (λ (x : Filled). x.number) e, s.number),
-      omega (arith, ap (λ (x : Filled). x.place) e, s.place),
-      omega (arith, ap (λ (x : Filled). x.count) e, few-written pattern log f cells),
+      omega (arith, ap (λ (x : FillReply). x.number) e, s.number),
+      omega (arith, ap (λ (x : FillReply). x.place) e, s.place),
+      omega (arith, ap (λ (x : FillReply). x.count) e, few-written pattern log f cells),
     )
 
 -- as pattern and log are refused, or with 10
-reply-small : (r : Refusal) → Small r ⊎ (r ≡ refused 10 0) → (r.number ≤ 10) × (r.place ≤ 1024)
+reply-small : (r : Signal) → Small r ⊎ (r ≡ refused 10 0) → (r.number ≤ 10) × (r.place ≤ 1024)
 reply-small r (inl s) = (omega (arith, s.number), s.place)
-reply-small r (inr s) = (omega (arith, ap (λ (x : Refusal). x.number) s), omega (arith, ap (λ (x : Refusal). x.place) s))
+reply-small r (inr s) = (omega (arith, ap (λ (x : Signal). x.number) s), omega (arith, ap (λ (x : Signal). x.place) s))
 
 -- of a picking call
 pub picking-small : (pattern log : List ℕ) (k : ℕ) (cells : List ℕ) (r : Reply) → r ≡ picking pattern log k cells → (r.number ≤ 10) × (r.place ≤ 1024) × (r.count ≤ 65536)
@@ -78,7 +78,7 @@ written-few : (l : List Stretch) (f : ℕ) (cells : List ℕ) → length (writte
 written-few l f cells = omega (arith, length-take (pairs_in cells) (drop f l), length-drop f l)
 
 -- of a filling call
-pub lists-small : (op k : ℕ) (items ends cells : List ℕ) (f : ℕ) (r : Filled) → r ≡ fill_result op k items ends cells f → (r.number ≤ 8) × (r.place ≤ 1024) × (r.count ≤ 65536)
+pub lists-small : (op k : ℕ) (items ends cells : List ℕ) (f : ℕ) (r : FillReply) → r ≡ fill_result op k items ends cells f → (r.number ≤ 8) × (r.place ≤ 1024) × (r.count ≤ 65536)
 unfolding fill_result lists_refusal
 lists-small op k items ends cells f r e = go (eqb (lowest (miscalled op k ends) items ends) 0) refl e
   where
@@ -86,14 +86,14 @@ lists-small op k items ends cells f r e = go (eqb (lowest (miscalled op k ends) 
         → (r.number ≤ 8) × (r.place ≤ 1024) × (r.count ≤ 65536)
     go true i x =
         let a = accepted (miscalled op k ends) items ends (eqb-true (lowest (miscalled op k ends) items ends) 0 i) in (
-          omega (arith, ap (λ (y : Filled). y.number) x),
-          omega (arith, ap (λ (y : Filled). y.place) x),
-          omega (arith, ap (λ (y : Filled). y.count) x, written-few (list_answers op k items ends) f cells, answers-few (operator_of length_of op k) (lists_of items ends) (fine-lists (lists_of items ends) a.order)),
+          omega (arith, ap (λ (y : FillReply). y.number) x),
+          omega (arith, ap (λ (y : FillReply). y.place) x),
+          omega (arith, ap (λ (y : FillReply). y.count) x, written-few (list_answers op k items ends) f cells, answers-few (operator_of length_of op k) (lists_of items ends) (fine-lists (lists_of items ends) a.order)),
         )
     go false i x = (
-      omega (arith, ap (λ (y : Filled). y.number) x, lowest-small (miscalled op k ends) items ends),
-      omega (arith, ap (λ (y : Filled). y.place) x),
-      omega (arith, ap (λ (y : Filled). y.count) x),
+      omega (arith, ap (λ (y : FillReply). y.number) x, lowest-small (miscalled op k ends) items ends),
+      omega (arith, ap (λ (y : FillReply). y.place) x),
+      omega (arith, ap (λ (y : FillReply). y.count) x),
     )
 
 -- the other operators take nothing

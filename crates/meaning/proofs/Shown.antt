@@ -12,7 +12,8 @@ use lib.Dec.{eqb}
 use borrow.Author.Tests.{eq-eqb, ne_eqb, not-true}
 use native.Mathlib.Omega.{arith}
 use Rattle.basics.proofs.Basics.{cases, le-or-lt, take-map}
-use Rattle.stretches.specs.Stretch.{Stretch, In, Fine, Op, answers}
+use Rattle.stretches.specs.declared.Stretch.{Stretch}
+use Rattle.stretches.specs.Stretch.{In, Fine, Op, answers}
 use Rattle.stretches.specs.Stretch as op
 use Rattle.stretches.specs.Front.{Front, None, Some}
 use Rattle.stretches.specs.Operators.{operator_of, apply}

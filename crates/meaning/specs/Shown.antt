@@ -1,7 +1,8 @@
 -- Every stretch with the lines that made it: docs/FORMATS.md, "The lines that made a stretch". Assumes nothing.
 use Rattle.std.specs.Prelude.{ℕ, suc, ◌+◌, ◌≤◌, ◌<◌, ◌≡◌, refl, Bool, true, not, cond, List, [], ◌∷◌, ◌++◌, map, get_or, eqb}
 use Rattle.std.proofs.Math.Option.{Option, none, some}
-use Rattle.stretches.specs.Stretch.{Stretch, st, In, length_of, Holder, Inner, Op}
+use Rattle.stretches.specs.declared.Stretch.{Stretch}
+use Rattle.stretches.specs.Stretch.{st, In, length_of, Holder, Inner, Op}
 use Rattle.stretches.specs.Front.{Front, None, Some}
 use Rattle.stretches.specs.Table.{leaf_kind, proof_kind}
 use Rattle.stretches.specs.Shown.{nothing, proves, shown_below, spanning, Proved, span_of}

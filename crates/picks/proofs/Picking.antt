@@ -18,9 +18,9 @@ use Rattle.stretches.specs.Lent.{pairs}
 use Rattle.stretches.proofs.Lists.{in-keep}
 use Rattle.stretches.proofs.Filling.{length-flat, pairs-flat, Partly, partly_more, partly-done, partly-all}
 use Rattle.meaning.specs.Meaning.{table_in}
-use Rattle.meaning.specs.Refusals.{Refusal, refused, accepted, bad_count, refusal, pick_refusal}
+use Rattle.meaning.specs.Refusals.{Signal, refused, accepted, bad_count, refusal, pick_refusal}
 use Rattle.meaning.specs.Finding.{list_of}
-use Rattle.meaning.specs.declared.Reply.{Reply}
+use Rattle.meaning.specs.Replies.{Reply}
 use Rattle.meaning.proofs.Finding.{good-pattern, accepted-number, pick-as, pick-count, pick-accepted}
 use Rattle.acceptance.specs.declared.Readied.{Readied}
 use Rattle.acceptance.specs.Readied.{readied}
@@ -136,7 +136,7 @@ module _ (text log : List ℕ) (k : ℕ) (cells : List ℕ) where
   Gives number place n cells' = (◌≡◌ {A = Reply} (record { number = number; place = place; count = n }) (picking text log k cells)) × (cells' ≡ filled (picks_in text log k) 0 cells)
 
   -- a refused call writes nothing
-  refused-call : (x : Refusal) → pick_refusal text log k ≡ x → eqb x.number 0 ≡ false → Gives x.number x.place 0 cells
+  refused-call : (x : Signal) → pick_refusal text log k ≡ x → eqb x.number 0 ≡ false → Gives x.number x.place 0 cells
   unfolding picks_in
   refused-call x e n = (
     λ i. record { number = (sym e i).number; place = (sym e i).place; count = sym (ap length nothing) i },
@@ -144,7 +144,7 @@ module _ (text log : List ℕ) (k : ℕ) (cells : List ℕ) where
   )
     where
       empty : picks_in text log k ≡ []
-      empty = ap (λ b. cond b (picks_of k (list_of text log)) []) (ap (λ (y : Refusal). eqb y.number 0) e ∙ n)
+      empty = ap (λ b. cond b (picks_of k (list_of text log)) []) (ap (λ (y : Signal). eqb y.number 0) e ∙ n)
 
       none : (j : ℕ) → ◌≡◌ {A = List Stretch} (take j []) []
       none zero = refl
@@ -168,7 +168,7 @@ module _ (text log : List ℕ) (k : ℕ) (cells : List ℕ) where
           go true true i j h =
               let z : r.number ≡ 0 = eqb-true r.number 0 i in
               let a = accepted-number text log (sym number_is ∙ z) in
-              let p : r.place ≡ 0 = ap (λ (x : Readied). x.place) e ∙ ap (λ (x : Refusal). x.place) (good-pattern text log a.tree a.brief a.reads) in
+              let p : r.place ≡ 0 = ap (λ (x : Readied). x.place) e ∙ ap (λ (x : Signal). x.place) (good-pattern text log a.tree a.brief a.reads) in
               subst (λ (x : ℕ). Gives x r.place 0 cells) (sym h) (subst (λ (x : ℕ). Gives 10 x 0 cells) (sym p) (refused-call (refused 10 0) (pick-count text log k true (given i) j) refl))
           go true false i j h = absurd (bad h)
           go false b i j h =
@@ -192,9 +192,9 @@ module _ (text log : List ℕ) (k : ℕ) (cells : List ℕ) where
             let a : pick_refusal text log k ≡ accepted = pick-count text log k false (given (eq-eqb r.number 0 z)) pick_goes.1 in
             let l : table_in r.rows log ≡ list_of text log = ap (λ (x : Readied). table_in x.rows log) e ∙ table-list text log (sym number_is ∙ z) in
             let ps : picks_of k (table_in r.rows log) ≡ picks_in text log k =
-            ap (picks_of k) l ∙ sym (ap (λ (y : Refusal). cond (eqb y.number 0) (picks_of k (list_of text log)) []) a) in
+            ap (picks_of k) l ∙ sym (ap (λ (y : Signal). cond (eqb y.number 0) (picks_of k (list_of text log)) []) a) in
             let w : written (picks_of k (table_in r.rows log)) 0 cells ≡ written (picks_in text log k) 0 cells = ap (λ (x : List Stretch). written x 0 cells) ps in
-            ((λ i. record { number = (ok ∙ ap (λ (y : Refusal). y.number) (sym a)) i; place = (sym a i).place; count = (g.0 ∙ ap length w) i }), g.1 ∙ ap (λ (x : List Stretch). filled x 0 cells) ps)
+            ((λ i. record { number = (ok ∙ ap (λ (y : Signal). y.number) (sym a)) i; place = (sym a i).place; count = (g.0 ∙ ap length w) i }), g.1 ∙ ap (λ (x : List Stretch). filled x 0 cells) ps)
 
         -- and the log is not too long
         pub pick-brief : length log ≤ 61440

@@ -20,8 +20,7 @@ use Rattle.stretches.proofs.Fronts.{front-good}
 use Rattle.stretches.proofs.Marks.{in-marks, rising-marks}
 use Rattle.stretches.proofs.Lent.{part-cons, part-nil}
 use Rattle.marks.specs.Row.{row}
-use Rattle.row_search.specs.Found.{found}
-use Rattle.row_search.specs.declared.Found as marked
+use Rattle.row_search.specs.Line.{line_of}
 use Rattle.seek.specs.declared.state.Kept.{Kept}
 use Rattle.seek.specs.declared.state.State.{State}
 use Rattle.seek.specs.Source.{lent}
@@ -130,28 +129,27 @@ module _ {items : List ℕ} {t lo hi p q : ℕ} (le : hi ≤ length items) (w : 
 
 -- ── A row of marks ──
 
-module _ (words : List ℕ) (at width t : ℕ) (f : marked.Found) (is : f ≡ found (first_from (marks 0 (row words at width)) t)) where
-  pub row-missed : {r : Stretch} → f.hit ≡ false → r ≡ gone → RowFound words at width t r
-  unfolding found
-  row-missed {r} miss e = record { is = λ fine. go (first_from (marks 0 (row words at width)) t) is }
+module _ (words : List ℕ) (at width t : ℕ) where
+  pub row-missed : {r : Stretch} → None ≡ line_of (first_from (marks 0 (row words at width)) t) → r ≡ gone → RowFound words at width t r
+  row-missed {r} is e = record { is = λ fine. go (first_from (marks 0 (row words at width)) t) is }
     where
-      go : (g : fronts.Front) → f ≡ found g → r ≡ front g
+      go : (g : fronts.Front) → None ≡ line_of g → r ≡ front g
       go None k = e
-      go (Some x) k = let z : false ≡ true = cc in absurd (let y : ◌≡◌ {A = ℕ} 0 1 = cc in omega arith)
+      go (Some x) k = cc
 
-  -- the line that was hit
-  row-hit : f.hit ≡ true → Fine 65536 (marks 0 (row words at width)) → (st f.line f.line ≡ front (first_from (marks 0 (row words at width)) t)) × (f.line < 65536)
-  unfolding found
-  row-hit hit fine = go (first_from (marks 0 (row words at width)) t) refl is
+  -- the line that was found
+  row-hit : (line : ℕ) → Some line ≡ line_of (first_from (marks 0 (row words at width)) t) → Fine 65536 (marks 0 (row words at width))
+      → (st line line ≡ front (first_from (marks 0 (row words at width)) t)) × (line < 65536)
+  row-hit line is fine = go (first_from (marks 0 (row words at width)) t) refl is
     where
-      go : (g : fronts.Front) → first_from (marks 0 (row words at width)) t ≡ g → f ≡ found g → (st f.line f.line ≡ front g) × (f.line < 65536)
-      go None z k = let y : false ≡ true = cc in absurd (let y : ◌≡◌ {A = ℕ} 0 1 = cc in omega arith)
+      go : (g : fronts.Front) → first_from (marks 0 (row words at width)) t ≡ g → Some line ≡ line_of g → (st line line ≡ front g) × (line < 65536)
+      go None z k = cc
       go (Some x) z k =
-          let l : f.line ≡ x.start = ap (λ (f : marked.Found). f.line) k in
+          let l : line ≡ x.start = cc in
           let m = front-good (marks 0 (row words at width)) (rising-marks 0 (row words at width)) t x z in
           let o = (in-marks 0 (row words at width) x.start x.end m.0).one in
-          let i : f.line ≡ x.end = omega arith in
+          let i : line ≡ x.end = omega arith in
           (ap₂ st l i, omega (arith, fine.below x.start x.end m.0))
 
-  pub row-there : {r : Stretch} → f.hit ≡ true → (f.line < 65536 → r ≡ st f.line f.line) → RowFound words at width t r
-  row-there hit e = record { is = λ fine. let h = row-hit hit fine in e h.1 ∙ h.0 }
+  pub row-there : (line : ℕ) {r : Stretch} → Some line ≡ line_of (first_from (marks 0 (row words at width)) t) → (line < 65536 → r ≡ st line line) → RowFound words at width t r
+  row-there line is e = record { is = λ fine. let h = row-hit line is fine in e h.1 ∙ h.0 }

@@ -58,16 +58,11 @@ impl<'a> Searched<'a> {
         requires { v < 32 }
         ensures { RowFound self.now.words.now (first_at self.now.rows.now v) (second_at self.now.rows.now v) t result }
     {
-        let f = row_search::next(
-            self.words,
-            self.rows[v].first,
-            self.rows[v].second,
-            t as usize,
-        );
-        if f.hit {
-            return at_line(f.line);
+        let row = &self.rows[v];
+        match row_search::next(self.words, row.first, row.second, t as usize) {
+            Some(line) => at_line(line),
+            None => GONE,
         }
-        GONE
     }
 
     // The first stretch from t on of the list that lies between the leaf's two places; none where it lies outside the items.

@@ -16,9 +16,9 @@ use Rattle.records.specs.Line.{says}
 use Rattle.pattern.specs.Pattern.{Pattern}
 use Rattle.pattern.specs.Rows.{Tree}
 use Rattle.meaning.specs.Meaning.{over_table, answers_of}
-use Rattle.meaning.specs.Refusals.{Refusal, refusal}
+use Rattle.meaning.specs.Refusals.{Signal, refusal}
 use Rattle.meaning.specs.Shown.{Shown, of_front, shown}
-use Rattle.meaning.specs.declared.Reply.{Reply}
+use Rattle.meaning.specs.Replies.{Reply}
 use Rattle.meaning.proofs.Finding.{good-pattern}
 use Rattle.meaning.proofs.Table.{tree-list}
 use Rattle.acceptance.specs.declared.Readied.{Readied}
@@ -114,4 +114,4 @@ module _ (text log : List ℕ) (k : ℕ) (cells : List ℕ) (r : Readied) (e : r
       let a = accepted-tree text log y in
       let h = written_as (of_front (nth (answers_of a.tree (says log)) k) (shown a.tree (says log))) (shown-accepted text log k a.tree a.reads a.list)
       (t.holds a.tree (subst (λ (rows : List ℕ). Tree rows 0 a.tree) (sym (ap (λ (x : Readied). x.rows) e)) a.stands) a.few) in
-      (λ i. reply (sym y i) (sym (ap (λ (x : Refusal). x.place) (good-pattern text log a.tree a.brief a.reads)) i) (h.0 i), h.1)
+      (λ i. reply (sym y i) (sym (ap (λ (x : Signal). x.place) (good-pattern text log a.tree a.brief a.reads)) i) (h.0 i), h.1)
