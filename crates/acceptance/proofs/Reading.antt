@@ -1,11 +1,13 @@
 -- What each return of `read_both` shows, and the list of an accepted pattern's table. Assumes nothing.
-use Prim.Native.Nat.{ℕ, ◌≤◌, ◌<◌}
+use Prim.Native.Nat.{ℕ, ◌≤◌}
 use mathlib.Core.Path.{◌≡◌, refl, sym, ap, ap₂, subst, ◌∙◌}
 use mathlib.Core.Bool.{cond}
 use mathlib.Core.List.{List}
 use lib.ListN.{length, replicate}
 use borrow.Author.Tests.{le-ltb}
 use Rattle.std.specs.Prelude.{Ok, Err}
+use Rattle.stretches.specs.declared.Node.{Node}
+use Rattle.stretches.specs.Table.{no_node}
 use Rattle.pattern.specs.Answer as answer
 use Rattle.pattern.specs.Reading.{Outcome, Accepts, Refuses, outcome_of, table_of, ReadGives}
 use Rattle.pattern.specs.Pattern.{Pattern, nodes}
@@ -42,7 +44,7 @@ module _ (text log : List ℕ) where
 
   -- the table of a log that is not too long
   rows_short : length log ≤ 61440 → (table_of (outcome_of text)).rows ≡ rows_in text log
-  rows_short h = sym (ap (λ b. cond b (replicate 160 0) (table_of (outcome_of text)).rows) (le-ltb 61440 (length log) h))
+  rows_short h = sym (ap (λ b. cond b (replicate 32 no_node) (table_of (outcome_of text)).rows) (le-ltb 61440 (length log) h))
 
   pub read-accepted : (t : Table) → length log ≤ 61440 → ReadGives text (Ok t) → accepted ≡ refusal text log
   read-accepted t h g = let a = read-accepts text t g in sym (good-pattern text log a.0 h a.1)
@@ -64,7 +66,7 @@ module _ (text log : List ℕ) where
         brief = k.brief;
         tree = k.tree;
         reads = k.reads;
-        stands = subst (λ (r : List ℕ). Tree r 0 k.tree) (sym (ap (λ (o : Outcome). (table_of o).rows) k.reads) ∙ rows_short k.brief) (table-tree k.tree a.few);
+        stands = subst (λ (r : List Node). Tree r 0 k.tree) (sym (ap (λ (o : Outcome). (table_of o).rows) k.reads) ∙ rows_short k.brief) (table-tree k.tree a.few);
         few = a.few;
         list = accepted-list text log k.tree k.brief k.reads;
       }

@@ -8,10 +8,10 @@ ghost use Rattle.acceptance.specs.Readied.{rows_in};
 
 use lines::LOG_MAX;
 use meaning::Refusal;
-use nodes::TABLE;
+use nodes::Nodes;
 
 // Measures the log, then reads the pattern.
-pub fn read_both(text: &[u8], log: &[u8]) -> Result<[usize; TABLE], Refusal>
+pub fn read_both(text: &[u8], log: &[u8]) -> Result<Nodes, Refusal>
     ensures signal { signal result ≡ refusal text.now log.now }
     ensures rows { IfOk result (λ rows. rows ≡ rows_in text.now log.now) }
 {

@@ -18,6 +18,7 @@ use Rattle.pattern.specs.declared.Step.{Step}
 use Rattle.pattern.specs.declared.Step.TheVariants.{Within, Closed}
 use Rattle.digits.specs.Chart.{digit}
 use Rattle.pattern.specs.Automaton.{slot, coded, said, first_field, second_field, third_field, next, live, number, shut, word_end, number_end, letter, step}
+use Rattle.pattern.specs.Rows.{entry}
 use Rattle.pattern.specs.inner.Scanner.{Written, since}
 use Rattle.basics.proofs.Basics.{cases, and-true}
 use Rattle.digits.proofs.ChartLaws.{digit-true}
@@ -97,14 +98,21 @@ pub record Shut (s : State) (b : ℕ) (h : Symbol) (s' : State) : Type 0 where
 abbrev pub After : State → ℕ → Option Step → Type 0
 After s b None = Unit {0}
 After s b (Some (Within s')) = Went s b s'
-After s b (Some (Closed h s')) = Shut s b (said h) s' × Named h.kind h.first h.second h.third
+After s b (Some (Closed h s')) = Shut s b (said h) s' × (entry (said h) 0 ≡ h)
+
+-- a symbol's numbers are its node's
+pub named_node : {k a b c : ℕ} → Named k a b c → entry (said (coded k a b c)) 0 ≡ coded k a b c
+named_node m = λ i. record { kind = m.kind i; size = 0; first = m.one i; second = m.two i; third = m.three i }
 
 -- past a comma nothing is written yet, and a digit is one more
-since-comma : (b : ℕ) (t : List ℕ) → b ≡ 44 → since b t ≡ []
+pub since-comma : (b : ℕ) (t : List ℕ) → b ≡ 44 → since b t ≡ []
 since-comma b t e = ap (λ (c : Bool). cond c [] (t ++ (b ∷ []))) (eq-eqb b 44 e)
 
+pub since-other : (b : ℕ) (t : List ℕ) → (b ≡ 44 → ⊥) → since b t ≡ t ++ (b ∷ [])
+since-other b t n = ap (λ (c : Bool). cond c [] (t ++ (b ∷ []))) (ne_eqb b 44 n)
+
 since-digit : (b : ℕ) (t : List ℕ) → 48 ≤ b → since b t ≡ t ++ (b ∷ [])
-since-digit b t h = ap (λ (c : Bool). cond c [] (t ++ (b ∷ []))) (ne_eqb b 44 (λ e. omega arith))
+since-digit b t h = since-other b t (λ e. omega arith)
 
 -- a comma after a whole symbol
 shut-after : (s : State) (b k a c d n : ℕ) → b ≡ 44 → Sound k → 1 ≤ n → n ≡ need s → pending s ≡ spell_symbol (symbol k a c d) → Made k a c d → After s b (shut (coded k a c d) n)
@@ -112,7 +120,7 @@ unfolding path
 shut-after s b k a c d n e h p q sp m =
     cases (eqb (n + arity k a) 1) (λ t. After s b (cond t None (Some (Closed (coded k a c d) (Letters 0 0 (n + arity k a - 1)))))) (λ t. tt)
     (λ t. let ne : n + arity k a ≡ 1 → ⊥ = eqb-false (n + arity k a) 1 t in
-    (record { held = (omega arith, omega arith, omega arith); comma = e; pends = refl; written = tt; needs = omega (arith, rank-arity k h a c d m.named); spelt = sp; ranged = m.ranged }, m.named))
+    (record { held = (omega arith, omega arith, omega arith); comma = e; pends = refl; written = tt; needs = omega (arith, rank-arity k h a c d m.named); spelt = sp; ranged = m.ranged }, named_node m.named))
 
 -- a comma after a word
 word_after : (r m n b k : ℕ) → Sound k → path r m ≡ word_of k → 1 ≤ n → b ≡ 44 → After (Letters r m n) b (word_end k n)

@@ -4,7 +4,7 @@
 use Rattle.std.specs.Prelude.{ℕ, zero, suc, ◌+◌, ◌-◌, ◌*◌, Bool, true, not, cond, ◌&&◌, ◌||◌, List, [], ◌∷◌, leb, ltb, eqb, length, get_or, Option, Some, None}
 use Rattle.digits.specs.Chart.{digit}
 use Rattle.pattern.specs.Kinds.{Symbol, Kind, kinds, find, kind_in, field_count, low, high, arity, symbol}
-use Rattle.pattern.specs.declared.Symbol as read
+use Rattle.stretches.specs.declared.Node as row
 use Rattle.pattern.specs.declared.Slot.{Slot}
 use Rattle.pattern.specs.declared.State.{State}
 use Rattle.pattern.specs.declared.State.TheVariants.{Letters, Field, Digits}
@@ -38,12 +38,12 @@ live lo hi v = leb v hi && (leb lo v || (leb 1 v && leb (10 * v) hi))
 
 -- ── What is read of a symbol ──
 
--- a kind's number and three numbers
-abbrev pub coded : ℕ → ℕ → ℕ → ℕ → read.Symbol
-coded k a b c = record { kind = k; first = a; second = b; third = c }
+-- a node of a kind with three numbers, the size of its subtree not known yet
+abbrev pub coded : ℕ → ℕ → ℕ → ℕ → row.Node
+coded k a b c = record { kind = k; size = 0; first = a; second = b; third = c }
 
--- the symbol that they say
-abbrev pub said : read.Symbol → Symbol
+-- its symbol
+abbrev pub said : row.Node → Symbol
 said h = symbol h.kind h.first h.second h.third
 
 -- the number at place j of a kind, the numbers before it, and the trees still to come
@@ -57,7 +57,7 @@ abbrev pub number : Slot → ℕ → Option Step
 number f v = cond (live (low f.kind f.field) (high f.kind f.field) v) (Some (Within (Digits f v))) None
 
 -- a comma after a whole symbol
-abbrev pub shut : read.Symbol → ℕ → Option Step
+abbrev pub shut : row.Node → ℕ → Option Step
 shut h n = cond (eqb (n + arity h.kind h.first) 1) None (Some (Closed h (Letters 0 0 (n + arity h.kind h.first - 1))))
 
 -- a comma after a word
@@ -81,7 +81,7 @@ abbrev pub third_field : ℕ → ℕ → ℕ
 third_field j v = cond (eqb j 0) 0 (cond (eqb j 1) 0 v)
 
 -- the three, of the symbol so far
-abbrev pub with_value : Slot → ℕ → read.Symbol
+abbrev pub with_value : Slot → ℕ → row.Node
 with_value f v = coded f.kind (first_field f.field f.first v) (second_field f.field f.second v) (third_field f.field v)
 
 -- and where its next number stands
@@ -116,7 +116,7 @@ after h (Stop p) = Stop (suc p)
 after h (Whole hs) = Whole (h ∷ hs)
 
 -- at the end of the text
-abbrev pub last : read.Symbol → ℕ → Scan
+abbrev pub last : row.Node → ℕ → Scan
 last h n = cond (eqb (n + arity h.kind h.first) 1) (Whole (said h ∷ [])) (Stop 0)
 
 -- what the end of the text makes of a state

@@ -6,8 +6,9 @@ ghost use Rattle.pattern.specs.Automaton.{next, number, shut, word_end, letter, 
 ghost use Rattle.pattern.specs.inner.Scanner.{Bounded, Piece, final, end_of};
 
 use super::alphabet::{KINDS, arity, field_count, kind_in, live, low, next};
-use super::{Slot, State, Step, Symbol};
+use super::{Slot, State, Step};
 use digits::Chart;
+use nodes::{NO_NODE, Node};
 
 // Digits of a number, if they start one of the field.
 fn number(slot: Slot, value: usize) -> Option<Step>
@@ -17,17 +18,17 @@ fn number(slot: Slot, value: usize) -> Option<Step>
     live(slot.kind, slot.field, value).then_some(Step::Within(State::Digits(slot, value)))
 }
 
-// A comma after a whole symbol.
-fn shut(symbol: Symbol, need: usize) -> Option<Step>
-    requires { (1 ≤ need) × ((need ≤ 1000000) × (symbol.first ≤ 1000000)) }
-    ensures { result ≡ shut symbol need }
+// A comma after a whole node.
+fn shut(node: Node, need: usize) -> Option<Step>
+    requires { (1 ≤ need) × ((need ≤ 1000000) × (node.first ≤ 1000000)) }
+    ensures { result ≡ shut node need }
 {
-    let n = need + arity(symbol.kind, symbol.first);
+    let n = need + arity(node.kind, node.first);
     if n == 1 {
         return None;
     }
     Some(Step::Closed(
-        symbol,
+        node,
         State::Letters {
             row: 0,
             read: 0,
@@ -42,13 +43,7 @@ fn word_end(kind: usize, need: usize) -> Option<Step>
     ensures { result ≡ word_end kind need }
 {
     if field_count(kind) == 0 {
-        let symbol = Symbol {
-            kind,
-            first: 0,
-            second: 0,
-            third: 0,
-        };
-        return shut(symbol, need);
+        return shut(Node { kind, ..NO_NODE }, need);
     }
     Some(Step::Within(State::Field(Slot {
         kind,
@@ -79,30 +74,30 @@ fn letter(row: usize, read: usize, b: u8, need: usize) -> Option<Step>
 }
 
 // A symbol's numbers through the one at the place.
-fn with_value(slot: Slot, value: usize) -> Symbol
+fn with_value(slot: Slot, value: usize) -> Node
     ensures { result ≡ with_value slot value }
 {
     let kind = slot.kind;
     let first = slot.first;
     let second = slot.second;
     match slot.field {
-        0 => Symbol {
+        0 => Node {
             kind,
             first: value,
-            second: 0,
-            third: 0,
+            ..NO_NODE
         },
-        1 => Symbol {
+        1 => Node {
             kind,
             first,
             second: value,
-            third: 0,
+            ..NO_NODE
         },
-        _ => Symbol {
+        _ => Node {
             kind,
             first,
             second,
             third: value,
+            ..NO_NODE
         },
     }
 }
@@ -115,17 +110,17 @@ fn number_end(slot: Slot, value: usize) -> Option<Step>
     if value < low(slot.kind, slot.field) {
         return None;
     }
-    let symbol = with_value(slot, value);
+    let node = with_value(slot, value);
     let field = slot.field + 1;
     if field < field_count(slot.kind) {
         return Some(Step::Within(State::Field(Slot {
             field,
-            first: symbol.first,
-            second: symbol.second,
+            first: node.first,
+            second: node.second,
             ..slot
         })));
     }
-    shut(symbol, slot.need)
+    shut(node, slot.need)
 }
 
 // What a byte does to a state. The piece is the text from the start of the present word or number through the byte; the value of digits is the sum of
@@ -156,15 +151,15 @@ pub(crate) fn advance(places: &Chart, piece: &[u8], s: State, b: u8) -> Option<S
 }
 
 // A symbol that ends the text.
-fn whole(symbol: Symbol, need: usize) -> Option<Symbol>
-    requires { (need ≤ 1000000) × (symbol.first ≤ 1000000) }
-    ensures { result ≡ final symbol need }
+fn whole(node: Node, need: usize) -> Option<Node>
+    requires { (need ≤ 1000000) × (node.first ≤ 1000000) }
+    ensures { result ≡ final node need }
 {
-    (need + arity(symbol.kind, symbol.first) == 1).then_some(symbol)
+    (need + arity(node.kind, node.first) == 1).then_some(node)
 }
 
 // What the end of the text makes of a state.
-pub(crate) fn last(s: State) -> Option<Symbol>
+pub(crate) fn last(s: State) -> Option<Node>
     requires { Bounded 1000000 s }
     ensures { result ≡ end_of s }
 {

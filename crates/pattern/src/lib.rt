@@ -8,9 +8,9 @@ mod automaton;
 mod scanner;
 mod tree;
 
-use nodes::{NODES, Nodes};
+use nodes::{NODES, Node, Nodes};
 use scanner::scan;
-use tree::{measure, tabled};
+use tree::measure;
 
 // The nodes in preorder, and how many they are; behind them no nodes.
 #[derive(Clone, Copy, Debug, PartialEq, Eq)]
@@ -31,15 +31,6 @@ pub enum Refusal {
     Misspelt(usize),
     Crowded,
     Deep,
-}
-
-// The number of a symbol's kind, and its numbers, 0 for those that it has not.
-#[derive(Clone, Copy)]
-struct Symbol {
-    pub kind: usize,
-    pub first: usize,
-    pub second: usize,
-    pub third: usize,
 }
 
 // Where a number of a symbol stands: the kind, the number's place, the numbers before it; and how many trees are still to come, the present one counted.
@@ -71,27 +62,8 @@ enum State {
 #[derive(Clone, Copy)]
 enum Step {
     Within(State),
-    // the comma after a whole symbol
-    Closed(Symbol, State),
-}
-
-// The symbols of a text, of which at most NODES are kept.
-#[derive(Clone, Copy)]
-struct Scanned {
-    pub whole: bool,
-    pub place: usize,
-    pub count: usize,
-    pub kind: [usize; NODES],
-    pub first: [usize; NODES],
-    pub second: [usize; NODES],
-    pub third: [usize; NODES],
-}
-
-// The sizes of the subtrees, node by node, and the depth of the whole.
-#[derive(Clone, Copy)]
-struct Sizes {
-    pub size: [usize; NODES],
-    pub depth: usize,
+    // the comma after a whole symbol: a node, the size of its subtree not known yet
+    Closed(Node, State),
 }
 
 // Reads a pattern: the lowest refusal that applies, else the table of the pattern that the text spells.
@@ -101,20 +73,12 @@ pub fn read(text: &[u8]) -> Result<Table, Refusal>
     if PATTERN_MAX < text.len() {
         return Err(Refusal::Long);
     }
-    let r = scan(text);
-    if !r.whole {
-        return Err(Refusal::Misspelt(r.place));
-    }
-    if NODES < r.count {
+    let mut table = scan(text)?;
+    if NODES < table.count {
         return Err(Refusal::Crowded);
     }
-    let kind = r.kind;
-    let first = r.first;
-    let second = r.second;
-    let third = r.third;
-    let m = measure(kind, first, r.count);
-    if DEPTH_MAX < m.depth {
+    if DEPTH_MAX < measure(&mut table) {
         return Err(Refusal::Deep);
     }
-    Ok(tabled(r.count, kind, m.size, first, second, third))
+    Ok(table)
 }

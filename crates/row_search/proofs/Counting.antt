@@ -2,6 +2,7 @@
 use Rattle.std.proofs.Common.{◌≡◌, ℕ, suc, ◌+◌, ◌-◌, ◌*◌, ◌/◌, ◌%◌, ◌^◌, ◌<◌, ◌≤◌, Bool, List, [], ◌∷◌, ◌++◌, length, get_or, take, drop, refl, sym, ap, ap₂, ◌∙◌, arith, sum_by}
 use lib.ListN.{take-append-drop, length-take}
 use lib.Seq.{take-append-add, take-append-le, take_all, take-nil, length-take-le}
+use native.Mathlib.Nat.{div-one}
 use lib.Count.{ones}
 use lib.Pow.{pow_mono}
 use Rattle.std.proofs.lemmas.List.Sums.{sum_by-cons}
@@ -9,7 +10,7 @@ use Rattle.marks.specs.Row.{bits, flags, trues, mark_count}
 use Rattle.row_search.specs.inner.Opened.{Opened}
 use Rattle.marks.proofs.Bits.{length-bits, bits_below, trues-bits, trues-all, ones_low}
 use Rattle.marks.proofs.Counts.{trues-append, trues_most}
-use Rattle.marks.proofs.Flags.{length-flags, flags-append, next-flags}
+use Rattle.marks.proofs.Flags.{length-flags, flags-append, next-flags, open-flags}
 
 -- of words, word by word
 pub trues-words : (ws : List ℕ) → sum_by (λ w. trues (bits 64 w)) ws ≡ trues (flags ws)
@@ -79,3 +80,17 @@ through-all ws e h = ap trues (take_all (suc e) (flags ws) (omega (arith, length
 
 pub through-few : (ws : List ℕ) (e : ℕ) → trues (take (suc e) (flags ws)) ≤ 64 * length ws
 through-few ws e = omega (arith, trues_most (take (suc e) (flags ws)), length-take (suc e) (flags ws), length-flags ws)
+
+-- the lines of one word up to line p
+pub count-word : (ws : List ℕ) (p : ℕ) → p / 64 < length ws
+    → mark_count (flags ws) (p - p % 64) p ≡ trues (bits 64 ((get_or ws (p / 64) 0 * 2 ^ (63 - p % 64)) % 2 ^ 64))
+unfolding mark_count
+count-word ws p h =
+    let k = p / 64 in
+    let w = get_or ws k 0 in
+    let z : suc p - (p - p % 64) ≡ suc (p % 64) = omega arith in
+    let y : p - p % 64 ≡ 64 * k + 0 = omega arith in
+    ap₂ (λ (x y : ℕ). trues (take x (drop y (flags ws)))) z y
+    ∙ ap (λ (b : List Bool). trues (take (suc (p % 64)) b)) (open-flags ws k 0 64 h refl)
+    ∙ ap (λ (x : ℕ). trues (take (suc (p % 64)) (bits 64 x ++ flags (drop (suc k) ws)))) (div-one w)
+    ∙ part 64 (p % 64) w (flags (drop (suc k) ws)) (omega arith) (omega arith)

@@ -8,7 +8,7 @@ use native.Mathlib.Omega.{arith}
 use lib.Dec.{ltb}
 use borrow.Author.Tests.{ltb-true, ltb-false, lt-ltb, le-ltb}
 use Rattle.stretches.specs.declared.Stretch.{Stretch}
-use Rattle.stretches.specs.Stretch.{Rising, AllRising, Or, answers}
+use Rattle.stretches.specs.Stretch.{st, Rising, AllRising, Or, answers}
 use Rattle.stretches.specs.Front.{None, Some, first_from}
 use Rattle.stretches.specs.Taking.{ends_first}
 use Rattle.stretches.specs.Front as fronts
@@ -17,8 +17,7 @@ use Rattle.basics.proofs.Basics.{cases}
 use Rattle.stretches.proofs.Fronts.{better, best_front, FirstIs, first_good, or-front}
 use Rattle.stretches.proofs.InRun.{Below, AllBelow}
 use Rattle.stretches.proofs.Orders.{ends-true, ends-false}
-use Rattle.seek.specs.declared.Front.{Front}
-use Rattle.seek.specs.First.{at_f, none_f, front}
+use Rattle.seek.specs.First.{gone, front}
 use Rattle.seek.specs.inner.Fronts.{better_of}
 
 -- a front that ends below 65,536
@@ -35,7 +34,7 @@ better-is (Some x) None a b = simp (le-ltb 65536 x.end (omega arith), lt-ltb x.e
 better-is (Some x) (Some y) a b = go (ltb y.end x.end) refl (ltb x.end y.end) refl (ltb x.start y.start) refl (ends_first x y) refl
   where
     go : (a : Bool) → ltb y.end x.end ≡ a → (b : Bool) → ltb x.end y.end ≡ b → (c : Bool) → ltb x.start y.start ≡ c → (w : Bool) → ends_first x y ≡ w
-        → cond a (at_f y.start y.end) (cond b (at_f x.start x.end) (cond c (at_f y.start y.end) (at_f x.start x.end))) ≡ front (cond w (Some x) (Some y))
+        → cond a (st y.start y.end) (cond b (st x.start x.end) (cond c (st y.start y.end) (st x.start x.end))) ≡ front (cond w (Some x) (Some y))
     go true p b q c i true j = absurd (omega (arith, ltb-true y.end x.end p, (ends-true x y j).0))
     go true p b q c i false j = refl
     go false p true q c i true j = refl
@@ -46,7 +45,7 @@ better-is (Some x) (Some y) a b = go (ltb y.end x.end) refl (ltb x.end y.end) re
     go false p false q false i true j = refl
     go false p false q false i false j =
         let e : x.end ≡ y.end = omega (arith, ltb-false y.end x.end p, ltb-false x.end y.end q) in
-        ap (λ (z : Stretch). at_f z.start z.end) (st-path x y (omega (arith, ltb-false x.start y.start i, (ends-false x y j).1 e)) e)
+        ap (λ (z : Stretch). st z.start z.end) (st-path x y (omega (arith, ltb-false x.start y.start i, (ends-false x y j).1 e)) e)
 
 better-small : (g h : fronts.Front) → Small g → Small h → Small (better g h)
 better-small None h a b = b
@@ -91,7 +90,7 @@ better-assoc (Some x) (Some y) (Some z) = go (ends_first x y) refl (ends_first y
     go false p false q false i = ap (λ c. cond c (Some y) (Some z)) q ∙ sym (ap (λ c. cond c (Some x) (Some z)) i)
 
 -- the best of acc and the lists' fronts from t on
-unfoldable pub best_from : ℕ → Front → List (List Stretch) → Front
+unfoldable pub best_from : ℕ → Stretch → List (List Stretch) → Stretch
 best_from t acc [] = acc
 best_from t acc (l ∷ ls) = best_from t (better_of acc (front (first_from l t))) ls
 
@@ -101,8 +100,8 @@ best-is t [] r b None s = refl
 best-is t [] r b (Some x) s = refl
 best-is t (l ∷ ls) r b g s =
     let w = front-small l r.0 b.0 t in
-    ap (λ (f : Front). best_from t f ls) (better-is g (first_from l t) s w)
+    ap (λ (f : Stretch). best_from t f ls) (better-is g (first_from l t) s w)
     ∙ (best-is t ls r.1 b.1 (better g (first_from l t)) (better-small g (first_from l t) s w) ∙ ap front (better-assoc g (first_from l t) (best_front ls t)))
 
-pub or-look : (ls : List (List Stretch)) → AllRising ls → AllBelow 65536 ls → (t : ℕ) → best_from t none_f ls ≡ front (first_from (answers Or ls) t)
+pub or-look : (ls : List (List Stretch)) → AllRising ls → AllBelow 65536 ls → (t : ℕ) → best_from t gone ls ≡ front (first_from (answers Or ls) t)
 or-look ls r b t = best-is t ls r b None tt ∙ ap front (sym (or-front ls r t))

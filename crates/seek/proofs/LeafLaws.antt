@@ -1,16 +1,16 @@
 -- Leaves: how a leaf goes over a lent list from a hint that is checked, and what it finds; and what it finds in a row of marks.
 -- Assumes nothing.
 use mathlib.Core.Path.{◌≡◌, refl, sym, ap, ap₂, subst, ◌∙◌}
-use mathlib.Core.Logic.{◌⊎◌, ◌≢◌, inl, inr}
+use mathlib.Core.Logic.{◌⊎◌, ◌≢◌, inl, inr, ⊎_elim}
 use mathlib.Core.Bool.{true, false, cond}
 use mathlib.Core.List.{List, [], ◌∷◌}
 use Prim.Native.Nat.{ℕ, zero, suc, ◌+◌, ◌-◌, ◌*◌, ◌/◌, ◌%◌, ◌≤◌, ◌<◌}
 use native.Mathlib.Omega.{arith}
 use lib.ListN.{length, get_or, set, length-set}
-use lib.Seq.{get_or-set_other}
+use lib.Seq.{get_or-set_same, get_or-set_other}
 use lib.Dec.{leb}
 use borrow.Author.Tests.{le-leb, lt-leb}
-use Rattle.basics.proofs.Basics.{cases}
+use Rattle.basics.proofs.Basics.{cases, eq-or-ne}
 use Rattle.stretches.specs.declared.Stretch.{Stretch}
 use Rattle.stretches.specs.Stretch.{st, In, Rising, Fine, marks}
 use Rattle.stretches.specs.Lent.{part}
@@ -21,10 +21,11 @@ use Rattle.stretches.proofs.Marks.{in-marks, rising-marks}
 use Rattle.stretches.proofs.Lent.{part-cons, part-nil}
 use Rattle.marks.specs.Row.{row}
 use Rattle.row_search.specs.Line.{line_of}
-use Rattle.seek.specs.declared.Front.{Front}
+use Rattle.seek.specs.declared.state.Kept.{Kept}
+use Rattle.seek.specs.declared.state.State.{State}
 use Rattle.seek.specs.Source.{lent}
-use Rattle.seek.specs.First.{at_f, none_f, front}
-use Rattle.seek.specs.inner.Leaves.{Resumed, Ran, Hinted, ListFound, RowFound}
+use Rattle.seek.specs.First.{gone, front, no_kept, kept_at}
+use Rattle.seek.specs.inner.Leaves.{Resumed, Ran, SameKept, Hinted, ListFound, RowFound}
 
 -- ── A list from a place on ──
 
@@ -80,11 +81,21 @@ resume-at {items} {lo} {hi} {t} {c} a b e p = record { step = (c - lo) / 2; is =
 
 -- ── What a leaf finds ──
 
-pub hinted-same : {s : List ℕ} → Hinted s s
-hinted-same = record { wide = refl; same = λ j lt. refl }
+pub hinted-same : {s : State} → Hinted s s
+hinted-same = record { wide = refl; same = λ v. record { past = refl; end = refl; asked = refl }; passed = refl }
 
-pub hinted-set : (s : List ℕ) (i x : ℕ) → 160 ≤ i → Hinted s (set s i x)
-hinted-set s i x le = record { wide = simp length-set; same = λ j lt. let w : j ≢ i = λ e. omega arith in rw get_or-set_other }
+hint-same : (l : List Kept) (v h : ℕ) → v < length l → (u : ℕ)
+    → SameKept (get_or l u no_kept) (get_or (set l v (record { past = (get_or l v no_kept).past; end = (get_or l v no_kept).end; asked = (get_or l v no_kept).asked; hint = h })) u no_kept)
+hint-same l v h lt u = ⊎_elim
+    (λ (z : u ≡ v). subst (λ (w : ℕ). SameKept (get_or l w no_kept) (get_or (set l v (record { past = (get_or l v no_kept).past; end = (get_or l v no_kept).end; asked = (get_or l v no_kept).asked; hint = h })) w no_kept)) (sym z)
+    (rw get_or-set_same (record { past = refl; end = refl; asked = refl })))
+    (λ (o : (u < v) ⊎ (v < u)).
+    let ne : u ≢ v = λ z. ⊎_elim (λ (h : u < v). omega arith) (λ (h : v < u). omega arith) o in
+    rw get_or-set_other (record { past = refl; end = refl; asked = refl }))
+    (eq-or-ne u v)
+
+pub hinted-set : (s : State) (v h : ℕ) → v < length s.kept → Hinted s (record { kept = set s.kept v (record { past = (kept_at s v).past; end = (kept_at s v).end; asked = (kept_at s v).asked; hint = h }); passed = s.passed })
+hinted-set s v h lt = record { wide = simp length-set; same = hint-same s.kept v h lt; passed = refl }
 
 -- a list that lies inside the items, and one that does not
 lent-inside : (items : List ℕ) (lo hi : ℕ) → hi ≤ length items → lent items lo hi ≡ part items lo hi
@@ -94,13 +105,13 @@ lent-outside : (items : List ℕ) (lo hi : ℕ) → length items < hi → lent i
 lent-outside items lo hi lt = ap (λ b. cond b (part items lo hi) []) (lt-leb hi (length items) lt)
 
 -- a list with no place
-pub list-empty : {items : List ℕ} {lo hi t : ℕ} {s : List ℕ} {r : Front} → r ≡ none_f → hi < lo → ListFound items lo hi t s r s
+pub list-empty : {items : List ℕ} {lo hi t : ℕ} {s : State} {r : Stretch} → r ≡ gone → hi < lo → ListFound items lo hi t s r s
 list-empty {items} {lo} {hi} {t} e lt = record { is = λ up. e ∙ ap (λ (l : List Stretch). front (first_from l t)) (sym none); hinted = hinted-same }
   where
     none : lent items lo hi ≡ []
     none = cases (leb hi (length items)) (λ b. cond b (part items lo hi) [] ≡ []) (λ k. part-nil items lo hi (omega arith)) (λ k. refl)
 
-pub list-outside : {items : List ℕ} {lo hi t : ℕ} {s : List ℕ} {r : Front} → r ≡ none_f → length items < hi → ListFound items lo hi t s r s
+pub list-outside : {items : List ℕ} {lo hi t : ℕ} {s : State} {r : Stretch} → r ≡ gone → length items < hi → ListFound items lo hi t s r s
 list-outside {items} {lo} {hi} {t} e bad = record { is = λ up. e ∙ ap (λ (l : List Stretch). front (first_from l t)) (sym (lent-outside items lo hi bad)); hinted = hinted-same }
 
 module _ {items : List ℕ} {t lo hi p q : ℕ} (le : hi ≤ length items) (w : Resumed items lo hi t p) (g : Ran items p hi t q) where
@@ -110,16 +121,16 @@ module _ {items : List ℕ} {t lo hi p q : ℕ} (le : hi ≤ length items) (w : 
       let z = lent-inside items lo hi le in
       ap (λ (l : List Stretch). first_from l t) z ∙ resumed-same items hi t le lo p (subst Rising z up) w ∙ g.same
 
-  pub list-none : {s s' : List ℕ} {r : Front} → Hinted s s' → r ≡ none_f → hi ≤ q + 1 → ListFound items lo hi t s r s'
+  pub list-none : {s s' : State} {r : Stretch} → Hinted s s' → r ≡ gone → hi ≤ q + 1 → ListFound items lo hi t s r s'
   list-none hint e past = record { is = λ up. e ∙ ap front (sym (run-found up ∙ ap (λ (l : List Stretch). first_from l t) (part-nil items q hi past))); hinted = hint }
 
-  pub list_at_lem : {s s' : List ℕ} {r : Front} → Hinted s s' → r ≡ at_f (get_or items q 0) (get_or items (q + 1) 0) → q + 1 < hi → ListFound items lo hi t s r s'
+  pub list_at_lem : {s s' : State} {r : Stretch} → Hinted s s' → r ≡ st (get_or items q 0) (get_or items (q + 1) 0) → q + 1 < hi → ListFound items lo hi t s r s'
   list_at_lem hint e lt = record { is = λ up. e ∙ ap front (sym (run-found up ∙ part_at items q hi t lt le (g.here lt))); hinted = hint }
 
 -- ── A row of marks ──
 
 module _ (words : List ℕ) (at width t : ℕ) where
-  pub row-missed : {r : Front} → None ≡ line_of (first_from (marks 0 (row words at width)) t) → r ≡ none_f → RowFound words at width t r
+  pub row-missed : {r : Stretch} → None ≡ line_of (first_from (marks 0 (row words at width)) t) → r ≡ gone → RowFound words at width t r
   row-missed {r} is e = record { is = λ fine. go (first_from (marks 0 (row words at width)) t) is }
     where
       go : (g : fronts.Front) → None ≡ line_of g → r ≡ front g
@@ -128,17 +139,17 @@ module _ (words : List ℕ) (at width t : ℕ) where
 
   -- the line that was found
   row-hit : (line : ℕ) → Some line ≡ line_of (first_from (marks 0 (row words at width)) t) → Fine 65536 (marks 0 (row words at width))
-      → (at_f line line ≡ front (first_from (marks 0 (row words at width)) t)) × (line < 65536)
+      → (st line line ≡ front (first_from (marks 0 (row words at width)) t)) × (line < 65536)
   row-hit line is fine = go (first_from (marks 0 (row words at width)) t) refl is
     where
-      go : (g : fronts.Front) → first_from (marks 0 (row words at width)) t ≡ g → Some line ≡ line_of g → (at_f line line ≡ front g) × (line < 65536)
+      go : (g : fronts.Front) → first_from (marks 0 (row words at width)) t ≡ g → Some line ≡ line_of g → (st line line ≡ front g) × (line < 65536)
       go None z k = cc
       go (Some x) z k =
           let l : line ≡ x.start = cc in
           let m = front-good (marks 0 (row words at width)) (rising-marks 0 (row words at width)) t x z in
           let o = (in-marks 0 (row words at width) x.start x.end m.0).one in
           let i : line ≡ x.end = omega arith in
-          (ap₂ at_f l i, omega (arith, fine.below x.start x.end m.0))
+          (ap₂ st l i, omega (arith, fine.below x.start x.end m.0))
 
-  pub row-there : (line : ℕ) {r : Front} → Some line ≡ line_of (first_from (marks 0 (row words at width)) t) → (line < 65536 → r ≡ at_f line line) → RowFound words at width t r
+  pub row-there : (line : ℕ) {r : Stretch} → Some line ≡ line_of (first_from (marks 0 (row words at width)) t) → (line < 65536 → r ≡ st line line) → RowFound words at width t r
   row-there line is e = record { is = λ fine. let h = row-hit line is fine in e h.1 ∙ h.0 }

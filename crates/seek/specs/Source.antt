@@ -7,6 +7,7 @@ use Rattle.stretches.specs.Lent.{part}
 use Rattle.stretches.specs.Table.{kind_at, first_at, second_at, no_node, Given, list_at}
 use Rattle.marks.specs.Row.{row}
 use Rattle.ranks.specs.Rank.{marks_by}
+use Rattle.seek.specs.declared.Searched.{Searched}
 
 -- rows of marks in words, lent lists in items, and the row of the sound lines with the number of marks before each of its words; over lists there is none
 pub record Source : Type 0 where
@@ -16,6 +17,10 @@ pub record Source : Type 0 where
 
 abbrev pub source : List ℕ → List ℕ → List ℕ → Source
 source w i s = record { words = w; items = i; sound = s }
+
+-- what is searched, but for the table
+abbrev pub source_of : Searched → Source
+source_of s = source s.words.now s.items.now s.sound.now
 
 -- the stretches from place i of the items up to place h; a list that does not lie inside the items has none
 abbrev pub lent : List ℕ → ℕ → ℕ → List Stretch

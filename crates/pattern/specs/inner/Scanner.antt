@@ -1,14 +1,17 @@
 -- What the scanner's functions promise each other.
 -- Assumes nothing.
-use Rattle.std.specs.Prelude.{ℕ, ◌+◌, ◌≤◌, ◌<◌, ◌≡◌, true, false, cond, List, [], ◌∷◌, ◌++◌, map, leb, ltb, eqb, length, set, Option, Some, None}
+use Rattle.std.specs.Prelude.{ℕ, ◌+◌, ◌-◌, ◌≤◌, ◌<◌, ◌≡◌, cond, List, [], ◌∷◌, ◌++◌, map, leb, ltb, eqb, length, set, replicate, Option, Some, None, Result, Ok, Err}
 use Rattle.basics.specs.Decimal.{decimal}
-use Rattle.pattern.specs.Kinds.{Symbol, kinds, kind_of, first_of, second_of, third_of, field_count, low, arity}
-use Rattle.pattern.specs.Rows.{padded}
+use Rattle.pattern.specs.Kinds.{Symbol, kinds, field_count, low, arity}
+use Rattle.stretches.specs.Table.{no_node}
+use Rattle.pattern.specs.Rows.{entry}
 use Rattle.pattern.specs.Automaton.{first_field, with_value, Scan, Stop, Whole}
-use Rattle.pattern.specs.declared.Symbol as read
+use Rattle.stretches.specs.declared.Node as row
 use Rattle.pattern.specs.declared.State.{State}
 use Rattle.pattern.specs.declared.State.TheVariants.{Letters, Field, Digits}
-use Rattle.pattern.specs.declared.Scanned.{Scanned}
+use Rattle.pattern.specs.declared.Table.{Table}
+use Rattle.pattern.specs.declared.Refusal.{Refusal}
+use Rattle.pattern.specs.declared.Refusal.TheVariants.{Misspelt}
 
 -- the numbers of a state are small
 abbrev pub Bounded : ℕ → State → Type 0
@@ -32,32 +35,27 @@ pub record Piece (s : State) (b : ℕ) (piece : List ℕ) : Type 0 where
 abbrev pub since : ℕ → List ℕ → List ℕ
 since b t = cond (eqb b 44) [] (t ++ (b ∷ []))
 
--- where the word or number of the byte after byte i, which is b, starts: past a comma, else where the present one does
-abbrev pub start_after : ℕ → ℕ → ℕ → ℕ
-start_after from i b = cond (eqb b 44) (i + 1) from
-
 -- a symbol that ends the text
-abbrev pub final : read.Symbol → ℕ → Option read.Symbol
+abbrev pub final : row.Node → ℕ → Option row.Node
 final h n = cond (eqb (n + arity h.kind h.first) 1) (Some h) None
 
--- the symbol that the end of the text ends, in a state
-unfoldable pub end_of : State → Option read.Symbol
+-- the symbol that the end of the text ends
+unfoldable pub end_of : State → Option row.Node
 end_of (Letters r m n) = None
 end_of (Field f) = None
 end_of (Digits f v) = cond (leb (low f.kind f.field) v) (cond (ltb (f.field + 1) (field_count f.kind)) None (final (with_value f v) f.need)) None
 
--- with v at i, if i is below 32
-abbrev pub put_at : List ℕ → ℕ → ℕ → List ℕ
-put_at l i v = cond (ltb i 32) (set l i v) l
+-- a node more, counted only where there is no room
+abbrev pub put : Table → row.Node → Table
+put t h = record { count = t.count + 1; rows = cond (ltb t.count 32) (set t.rows t.count h) t.rows }
 
--- the four columns of the symbols
-pub record Columns (hs : List Symbol) (ks xs ys zs : List ℕ) : Type 0 where
-  pub kinds : ks ≡ padded (map kind_of hs)
-  pub firsts : xs ≡ padded (map first_of hs)
-  pub seconds : ys ≡ padded (map second_of hs)
-  pub thirds : zs ≡ padded (map third_of hs)
+-- the symbols as nodes whose sizes are not known yet, and then no nodes
+abbrev pub unsized : List Symbol → List row.Node
+unsized hs = map (λ h. entry h 0) hs ++ replicate (32 - length hs) no_node
 
 -- what the code keeps of a scan
-abbrev pub Tells : Scan → Scanned → Type 0
-Tells (Stop p) r = (r.whole ≡ false) × (r.place ≡ p)
-Tells (Whole hs) r = (r.whole ≡ true) × (r.count ≡ length hs) × (length hs ≤ 32 → Columns hs r.kind r.first r.second r.third)
+abbrev pub Tells : Scan → Result Table Refusal → Type 0
+Tells (Stop p) (Ok t) = ⊥
+Tells (Stop p) (Err e) = e ≡ Misspelt p
+Tells (Whole hs) (Ok t) = (t.count ≡ length hs) × (length hs ≤ 32 → t.rows ≡ unsized hs)
+Tells (Whole hs) (Err e) = ⊥

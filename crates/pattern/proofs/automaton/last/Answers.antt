@@ -3,7 +3,7 @@
 use borrow.Author.Tests.{lt-leb, le-leb, lt-ltb, le-ltb}
 use mathlib.Core.Path.{◌∙◌, sym, ap}
 use native.Mathlib.Omega.{arith}
-use Rattle.pattern.specs.declared.Symbol as read
+use Rattle.stretches.specs.declared.Node as row
 use Rattle.pattern.specs.inner.Scanner.{final, end_of}
 use Rattle.pattern.proofs.Steps.{digits-bounded, end-other}
 use Rattle.pattern.proofs.automaton.last.Goals as goal
@@ -28,7 +28,7 @@ returns-then-value-low c =
 
 pub whole-requires : goal.whole-requires
 whole-requires c = let d = digits-bounded c.args.s 0 c.in-Digits.is 1000000 c.requires in
-    (d.1, omega (arith, ap (λ (h : read.Symbol). h.first) c.with_value.ensures, d.3))
+    (d.1, omega (arith, ap (λ (h : row.Node). h.first) c.with_value.ensures, d.3))
 
 pub returns : goal.returns
 unfolding end_of
