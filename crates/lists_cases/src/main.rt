@@ -8,202 +8,48 @@
 // are (at most 32); then these items, and for each list where in the items it ends.
 #![tactic(auto)]
 
-use basics::wide;
+use basics::first;
 use input::read_whole;
-use std::io;
+use std::{io, str};
 
-fn put(rt: &impl Print, b: u8) -> io::Result<()> {
-    rt.write_all(&[b])
-}
-
-// A comma and a number.
-fn show(rt: &impl Print, n: usize) -> io::Result<()> {
-    put(rt, b',')?;
-    rt.print(n)
-}
-
-fn flag(b: bool) -> usize {
-    if b { 1 } else { 0 }
-}
-
-// All numbers, and a line feed.
-fn show_all(rt: &impl Print, s: &[u32]) -> io::Result<()> {
-    let mut i: usize = 0;
-    while i < s.len() {
-        show(rt, wide(s[i]))?;
-        i += 1;
+// Makes the call on a line.
+fn call(rt: &impl Print, line: &str) -> io::Result<()> {
+    let mut numbers = line.split(',');
+    let mut head = [0usize; 7];
+    for (to, n) in head.iter_mut().zip(numbers.by_ref()) {
+        *to = n.parse().unwrap_or(0);
     }
-    put(rt, b'\n')
-}
-
-// The line of a call.
-fn line(
-    rt: &impl Print,
-    letter: u8,
-    a: usize,
-    b: usize,
-    c: usize,
-    d: usize,
-    cells: &[u32],
-) -> io::Result<()> {
-    put(rt, letter)?;
-    show(rt, a)?;
-    show(rt, b)?;
-    show(rt, c)?;
-    show(rt, d)?;
-    show_all(rt, cells)
-}
-
-// A number with one more digit, the greatest where that is too great.
-fn longer(n: usize, digit: u8) -> usize {
-    if 1844674407370955160 < n {
-        return 18446744073709551615;
-    }
-    n * 10 + (digit % 10) as usize
-}
-
-// The number at a place, which moves behind the byte after the number.
-fn next(input: &[u8], at: &mut usize) -> usize {
-    let mut n = 0;
-    let mut i = *at;
-    while i < input.len() {
-        let b = input[i];
-        i += 1;
-        if b < 48 {
-            *at = i;
-            return n;
-        }
-        n = longer(n, b - 48);
-    }
-    *at = i;
-    n
-}
-
-fn small(n: usize) -> u32 {
-    (n % 4294967296) as u32
-}
-
-// What a line has before its lists; all: how many numbers the items and the ends are.
-#[derive(Clone, Copy)]
-struct Head {
-    taking: usize,
-    op: u32,
-    k: u32,
-    lent: usize,
-    number: usize,
-    items: usize,
-    all: usize,
-}
-
-fn read_head(input: &[u8], at: &mut usize) -> Head {
-    let taking = next(input, at);
-    let op = small(next(input, at));
-    let k = small(next(input, at));
-    let lent = next(input, at);
-    let number = next(input, at);
-    let items = next(input, at) % 65;
-    let lists = next(input, at) % 33;
-    Head {
-        taking,
-        op,
-        k,
-        lent,
-        number,
-        items,
-        all: items + lists,
-    }
-}
-
-// Reads n numbers, as far as there is room.
-fn numbers(input: &[u8], at: &mut usize, into: &mut [u32], n: usize) {
-    let mut i = 0;
-    while i < into.len() {
-        if n <= i {
-            return;
-        }
-        into[i] = small(next(input, at));
-        i += 1;
-    }
-}
-
-// The numbers from one place to another; none where there are fewer.
-fn part(s: &[u32], from: usize, to: usize) -> &[u32] {
-    if to < from {
-        return &s[..0];
-    }
-    if s.len() < to {
-        return &s[..0];
-    }
-    &s[from..to]
-}
-
-// Makes a call with the cells from one place to another.
-fn make(
-    rt: &impl Print,
-    h: Head,
-    items: &[u32],
-    ends: &[u32],
-    cells: &mut [u32],
-    from: usize,
-    to: usize,
-) -> io::Result<()> {
-    if to < from {
-        return Ok(());
-    }
-    if cells.len() < to {
-        return Ok(());
-    }
-    let lent = &mut cells[from..to];
-    if h.taking == 0 {
-        let r = lists::fill(h.op, h.k, items, ends, lent, h.number);
-        line(rt, b'F', r.number, r.place, r.count, flag(r.more), lent)
-    } else {
-        let r = taking::take(h.op, items, ends, lent, h.number);
-        line(
-            rt,
-            b'T',
-            r.number,
-            flag(r.found),
-            wide(r.start),
-            wide(r.end),
-            lent,
-        )
-    }
-}
-
-// Makes the call on the line at a place.
-fn call(rt: &impl Print, input: &[u8], at: &mut usize) -> io::Result<()> {
-    let h = read_head(input, at);
     let mut list = [0u32; 96];
-    numbers(input, at, &mut list, h.all);
-    let mut cells = [7u32; 32];
-    make(
-        rt,
-        h,
-        part(&list, 0, h.items),
-        part(&list, h.items, h.all),
-        &mut cells,
-        0,
-        h.lent,
-    )
-}
-
-// Every line: as many as there are bytes at most.
-fn calls(rt: &impl Print, input: &[u8]) -> io::Result<()> {
-    let mut at = 0;
-    let mut k = 0;
-    while k < input.len() {
-        if input.len() <= at {
-            return Ok(());
-        }
-        call(rt, input, &mut at)?;
-        k += 1;
+    for (to, n) in list.iter_mut().zip(numbers) {
+        *to = n.parse().unwrap_or(0);
     }
-    Ok(())
+    let [taking, op, k, lent, number, items, lists] = head;
+    let op = u32::try_from(op).unwrap_or(u32::MAX);
+    let k = u32::try_from(k).unwrap_or(u32::MAX);
+    let ends = first(list.get(items..).unwrap_or(&[]), lists);
+    let items = first(&list, items);
+    let mut cells = [7u32; 32];
+    let lent = &mut cells[..lent.min(32)];
+    if taking == 0 {
+        let r = lists::fill(op, k, items, ends, lent, number);
+        let (number, place, count, more) = (r.number, r.place, r.count, u8::from(r.more));
+        print!(rt; "F,{number},{place},{count},{more}")?;
+    } else {
+        let r = taking::take(op, items, ends, lent, number);
+        let (number, found, start, end) = (r.number, u8::from(r.found), r.start, r.end);
+        print!(rt; "T,{number},{found},{start},{end}")?;
+    }
+    for cell in lent {
+        print!(rt; ",{cell}")?;
+    }
+    println!(rt)
 }
 
 fn main(rt: HostRuntime) -> io::Result<()> {
     let mut input = [0u8; 65536];
     let n = read_whole(&mut rt.stdin(), &mut input)?;
-    calls(&rt, &input[..n])
+    for line in str::from_utf8(&input[..n]).unwrap_or("").lines() {
+        call(&rt, line)?;
+    }
+    Ok(())
 }
