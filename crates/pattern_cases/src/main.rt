@@ -37,8 +37,8 @@ fn entries(rt: &impl Print, text: &[u8]) -> io::Result<()> {
 
 // Every pattern, of the last one the table: the last is that behind whose semicolon at most one byte stands, or that has none.
 fn patterns(rt: &impl Print, input: &[u8]) -> io::Result<()> {
-    let mut left = input;
-    while 1 < left.len() {
+    let mut left = if input.len() < 2 { &[] } else { input };
+    while !left.is_empty() {
         let to = left.iter().position(|b| *b == b';').unwrap_or(left.len());
         let text = &left[..to];
         left = left.get(to + 2..).unwrap_or(&[]);
