@@ -8,48 +8,96 @@
 // are (at most 32); then these items, and for each list where in the items it ends.
 #![tactic(auto)]
 
-use basics::first;
 use input::read_whole;
-use std::{io, str};
+use std::io;
 
-// Makes the call on a line.
-fn call(rt: &impl Print, line: &str) -> io::Result<()> {
-    let mut numbers = line.split(',');
+// A number with one more digit, the greatest where that is too great.
+fn longer(n: usize, digit: u8) -> usize {
+    if 1844674407370955160 < n {
+        return usize::MAX;
+    }
+    n * 10 + usize::from(digit % 10)
+}
+
+// The number at the start of the input, which goes on behind the byte after the number.
+fn next(input: &mut &[u8]) -> usize {
+    let end = input.iter().position(|b| *b < b'0').unwrap_or(input.len());
+    let digits = &input[..end];
+    *input = input.get(end + 1..).unwrap_or(&[]);
+    let mut n = 0;
+    for b in digits {
+        n = longer(n, b.saturating_sub(b'0'));
+    }
+    n
+}
+
+fn small(n: usize) -> u32 {
+    (n % 4294967296) as u32
+}
+
+// Makes the call at the start of the input. One that lends more cells than there are is not made.
+fn call(rt: &impl Print, input: &mut &[u8]) -> io::Result<()> {
     let mut head = [0usize; 7];
-    for (to, n) in head.iter_mut().zip(numbers.by_ref()) {
-        *to = n.parse().unwrap_or(0);
+    for n in &mut head {
+        *n = next(input);
     }
+    let [taking, op, k, room, number, items, lists] = head;
+    let (op, k) = (small(op), small(k));
+    let (items, lists) = (items % 65, lists % 33);
     let mut list = [0u32; 96];
-    for (to, n) in list.iter_mut().zip(numbers) {
-        *to = n.parse().unwrap_or(0);
+    let used = &mut list[..items + lists];
+    for n in used.iter_mut() {
+        *n = small(next(input));
     }
-    let [taking, op, k, lent, number, items, lists] = head;
-    let op = u32::try_from(op).unwrap_or(u32::MAX);
-    let k = u32::try_from(k).unwrap_or(u32::MAX);
-    let ends = first(list.get(items..).unwrap_or(&[]), lists);
-    let items = first(&list, items);
+    let (items, ends) = used.split_at(items);
     let mut cells = [7u32; 32];
-    let lent = &mut cells[..lent.min(32)];
+    let Some(lent) = cells.get_mut(..room) else {
+        return Ok(());
+    };
     if taking == 0 {
-        let r = lists::fill(op, k, items, ends, lent, number);
-        let (number, place, count, more) = (r.number, r.place, r.count, u8::from(r.more));
-        print!(rt; "F,{number},{place},{count},{more}")?;
+        match lists::fill(op, k, items, ends, lent, number) {
+            Ok(filled) => {
+                let (count, more) = (filled.count, u8::from(filled.more));
+                print!(rt; "F,0,0,{count},{more}")?;
+            }
+            Err(refusal) => {
+                let (number, place) = (refusal.number(), refusal.place());
+                print!(rt; "F,{number},{place},0,0")?;
+            }
+        }
     } else {
-        let r = taking::take(op, items, ends, lent, number);
-        let (number, found, start, end) = (r.number, u8::from(r.found), r.start, r.end);
-        print!(rt; "T,{number},{found},{start},{end}")?;
+        match taking::take(op, items, ends, lent, number) {
+            Ok(Some(x)) => {
+                let (start, end) = (x.start, x.end);
+                print!(rt; "T,0,1,{start},{end}")?;
+            }
+            Ok(None) => print!(rt; "T,0,0,0,0")?,
+            Err(refusal) => {
+                let number = refusal.number();
+                print!(rt; "T,{number},0,0,0")?;
+            }
+        }
     }
-    for cell in lent {
+    for cell in lent.iter() {
         print!(rt; ",{cell}")?;
     }
     println!(rt)
 }
 
+// Every call: as many as there are bytes at most.
+fn calls(rt: &impl Print, input: &[u8]) -> io::Result<()> {
+    let mut left = input;
+    for _ in 0..input.len() {
+        if left.is_empty() {
+            return Ok(());
+        }
+        call(rt, &mut left)?;
+    }
+    Ok(())
+}
+
 fn main(rt: HostRuntime) -> io::Result<()> {
     let mut input = [0u8; 65536];
     let n = read_whole(&mut rt.stdin(), &mut input)?;
-    for line in str::from_utf8(&input[..n]).unwrap_or("").lines() {
-        call(&rt, line)?;
-    }
-    Ok(())
+    calls(&rt, &input[..n])
 }

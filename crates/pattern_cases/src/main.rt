@@ -5,37 +5,41 @@
 #![tactic(auto)]
 
 use input::read_whole;
-use pattern::Verdict;
+use nodes::{NODES, NO_NODE};
+use pattern::Refusal;
 use std::io;
 
 fn answer(rt: &impl Print, text: &[u8]) -> io::Result<()> {
-    let r = pattern::read(text);
-    match r.verdict {
-        Verdict::Accepted => {
-            let count = r.table.count;
+    match pattern::read(text) {
+        Ok(table) => {
+            let count = table.count;
             println!(rt; "A,0,{count:05}")
         }
-        Verdict::Long => println!(rt; "R,2,00000"),
-        Verdict::Misspelt(place) => println!(rt; "R,3,{place:05}"),
-        Verdict::Crowded => println!(rt; "R,4,00000"),
-        Verdict::Deep => println!(rt; "R,5,00000"),
+        Err(Refusal::Long) => println!(rt; "R,2,00000"),
+        Err(Refusal::Misspelt(place)) => println!(rt; "R,3,{place:05}"),
+        Err(Refusal::Crowded) => println!(rt; "R,4,00000"),
+        Err(Refusal::Deep) => println!(rt; "R,5,00000"),
     }
 }
 
-// A table: of each node, and of the entry past them, the kind, size, first and second number.
+// A table: of each node, and of the entry past them, the kind, size, first and second number. A refused text has no nodes.
 fn entries(rt: &impl Print, text: &[u8]) -> io::Result<()> {
-    let rows = pattern::read(text).table.rows;
-    for v in 0..14 {
-        let (kind, size, first, second) = (rows[v], rows[32 + v], rows[64 + v], rows[96 + v]);
+    let rows = match pattern::read(text) {
+        Ok(table) => table.rows,
+        Err(_) => [NO_NODE; NODES],
+    };
+    for node in &rows[..14] {
+        let (kind, size, first, second) = (node.kind, node.size, node.first, node.second);
         println!(rt; "{kind:05},{size:05},{first:05},{second:05}")?;
     }
     Ok(())
 }
 
-// Every pattern, of the last one the table.
+// Every pattern, of the last one the table: the last is that behind whose semicolon at most one byte stands, or that has none.
 fn patterns(rt: &impl Print, input: &[u8]) -> io::Result<()> {
-    let mut left = input;
-    while let Some(to) = left.iter().position(|b| *b == b';') {
+    let mut left = if input.len() < 2 { &[] } else { input };
+    while !left.is_empty() {
+        let to = left.iter().position(|b| *b == b';').unwrap_or(left.len());
         let text = &left[..to];
         left = left.get(to + 2..).unwrap_or(&[]);
         if left.is_empty() {
