@@ -1,44 +1,53 @@
 -- What each return of `read_both` shows, and the list of an accepted pattern's table. Assumes nothing.
-use Prim.Native.Nat.{ℕ, ◌≤◌, ◌<◌}
-use mathlib.Core.Path.{◌≡◌, sym, ap, subst, ◌∙◌}
+use Prim.Native.Nat.{ℕ, ◌≤◌}
+use mathlib.Core.Path.{◌≡◌, refl, sym, ap, ap₂, subst, ◌∙◌}
 use mathlib.Core.Bool.{cond}
 use mathlib.Core.List.{List}
 use lib.ListN.{length, replicate}
-use borrow.Author.Tests.{lt-ltb, le-ltb}
-use Rattle.pattern.specs.Answer.{number_of, place_of}
-use Rattle.pattern.specs.Reading as pattern
-use Rattle.pattern.specs.Reading.{Outcome, Accepts, outcome_of, table_of}
+use borrow.Author.Tests.{le-ltb}
+use Rattle.std.specs.Prelude.{Ok, Err}
+use Rattle.stretches.specs.declared.Node.{Node}
+use Rattle.stretches.specs.Table.{no_node}
+use Rattle.pattern.specs.Answer as answer
+use Rattle.pattern.specs.Reading.{Outcome, Accepts, Refuses, outcome_of, table_of, ReadGives}
 use Rattle.pattern.specs.Pattern.{Pattern, nodes}
 use Rattle.pattern.specs.Rows.{Tree}
-use Rattle.pattern.specs.declared.Parsed.{Parsed}
+use Rattle.pattern.specs.declared.Refusal as pattern
+use Rattle.pattern.specs.declared.Refusal.TheVariants.{Long, Misspelt, Crowded, Deep}
 use Rattle.pattern.specs.declared.Table.{Table}
-use Rattle.pattern.proofs.Outcomes.{accepts-spells}
+use Rattle.pattern.proofs.Outcomes.{accepts-spells, read-accepts, read-refuses}
 use Rattle.pattern.proofs.Rows.{table-tree}
 use Rattle.meaning.specs.Meaning.{answers_in, table_in}
-use Rattle.meaning.specs.Refusals.{Refusal, refused, refusal}
+use Rattle.meaning.specs.Refusals.{refused, accepted, refusal}
 use Rattle.meaning.specs.Finding.{list_of}
-use Rattle.meaning.proofs.Finding.{long-log, short-log, accepted-list, accepted-number}
+use Rattle.meaning.specs.Replies.{number_of, place_of, told}
+use Rattle.meaning.proofs.Finding.{bad-pattern, good-pattern, accepted-list, accepted-number}
 use Rattle.meaning.proofs.Table.{table-answers}
-use Rattle.acceptance.specs.declared.Readied.{Readied}
-use Rattle.acceptance.specs.Readied.{rows_in, readied}
+use Rattle.acceptance.specs.Readied.{rows_in}
+
+-- a pattern's refusal keeps its number and place
+told-number : (v : pattern.Refusal) → number_of (told v) ≡ answer.number_of v
+told-number Long = refl
+told-number (Misspelt n) = refl
+told-number Crowded = refl
+told-number Deep = refl
+
+told-place : (v : pattern.Refusal) → place_of (told v) ≡ answer.place_of v
+told-place Long = refl
+told-place (Misspelt n) = refl
+told-place Crowded = refl
+told-place Deep = refl
 
 module _ (text log : List ℕ) where
-  abbrev said : ℕ → ℕ → List ℕ → Readied
-  said n p rows = record { number = n; place = p; rows = rows }
-
-  pub read-long : 61440 < length log → said 1 0 (replicate 160 0) ≡ readied text log
-  read-long h =
-      let e : refusal text log ≡ refused 1 0 = long-log text log h in
-      λ i. said (sym e i).number (sym e i).place (sym (ap (λ b. cond b (replicate 160 0) (table_of (outcome_of text)).rows) (lt-ltb 61440 (length log) h)) i)
+  pub read-refused : (v : pattern.Refusal) → length log ≤ 61440 → ReadGives text (Err v) → refused (number_of (told v)) (place_of (told v)) ≡ refusal text log
+  read-refused v h g = sym (bad-pattern text log (number_of (told v)) (place_of (told v)) h (read-refuses text v g ∙ ap₂ Refuses (sym (told-number v)) (sym (told-place v))))
 
   -- the table of a log that is not too long
   rows_short : length log ≤ 61440 → (table_of (outcome_of text)).rows ≡ rows_in text log
-  rows_short h = sym (ap (λ b. cond b (replicate 160 0) (table_of (outcome_of text)).rows) (le-ltb 61440 (length log) h))
+  rows_short h = sym (ap (λ b. cond b (replicate 32 no_node) (table_of (outcome_of text)).rows) (le-ltb 61440 (length log) h))
 
-  pub read_short : (r : Parsed) (n p : ℕ) → length log ≤ 61440 → pattern.ReadGives text r → n ≡ number_of r.verdict → p ≡ place_of r.verdict → said n p r.table.rows ≡ readied text log
-  read_short r n p h g en ep =
-      let e = short-log text log h in
-      λ i. said ((en ∙ (g.number ∙ ap (λ (x : Refusal). x.number) (sym e))) i) ((ep ∙ (g.place ∙ ap (λ (x : Refusal). x.place) (sym e))) i) ((ap (λ (t : Table). t.rows) g.table ∙ rows_short h) i)
+  pub read-accepted : (t : Table) → length log ≤ 61440 → ReadGives text (Ok t) → accepted ≡ refusal text log
+  read-accepted t h g = let a = read-accepts text t g in sym (good-pattern text log a.0 h a.1)
 
   -- of an accepted call the log is not too long, the pattern stands in the table, and the list is the pattern's
   pub record AcceptedTree : Type 0 where
@@ -57,7 +66,7 @@ module _ (text log : List ℕ) where
         brief = k.brief;
         tree = k.tree;
         reads = k.reads;
-        stands = subst (λ (r : List ℕ). Tree r 0 k.tree) (sym (ap (λ (o : Outcome). (table_of o).rows) k.reads) ∙ rows_short k.brief) (table-tree k.tree a.few);
+        stands = subst (λ (r : List Node). Tree r 0 k.tree) (sym (ap (λ (o : Outcome). (table_of o).rows) k.reads) ∙ rows_short k.brief) (table-tree k.tree a.few);
         few = a.few;
         list = accepted-list text log k.tree k.brief k.reads;
       }

@@ -38,10 +38,10 @@ pub fn longer(a: usize, b: usize) -> usize
     if b <= a { a } else { b }
 }
 
-// The first n bytes, where they stand; all where they are fewer.
-pub fn first(s: &[u8], n: usize) -> &[u8]
+// The first n items, where they stand; all where they are fewer.
+pub fn first<T>(s: &[T], n: usize) -> &[T]
     ensures result_value { result.now ≡ take n s.now }
     ensures ref_ptr_value { (result.ref_ptr.0 ≡ s.entry.ref_ptr.0) × (result.ref_ptr.1 ≡ s.entry.ref_ptr.1) }
 {
-    if n < s.len() { &s[..n] } else { s }
+    &s[..n.min(s.len())]
 }

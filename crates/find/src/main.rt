@@ -6,38 +6,28 @@ ghost use Rattle.find.specs.Reading.{Turned, Gathered, Held, Prints};
 
 use basics::first;
 use input::Intake;
+use std::fmt::InlineText;
 use std::io;
-use std::io::{ErrorKind, Read, Write};
+use std::io::{ErrorKind, Read};
 
-// What a turn of reading gave: a piece, taken in; the end of the input; or a failure.
-#[derive(Drop)]
-enum Turn {
-    More(Intake),
-    End,
-    Failed(io::Error),
-}
-
-// What reading gave.
-#[derive(Drop)]
-enum Input {
-    Read(Intake),
-    Failed(io::Error),
-}
-
-// Reads once, and takes in what came.
-fn read_piece<R: Read>(from: &mut R, t: Intake, pattern: &mut [u8], log: &mut [u8]) -> Turn
+// Reads once, and takes in what came; none at the end of the input.
+fn read_piece<R: Read>(
+    from: &mut R,
+    t: Intake,
+    pattern: &mut [u8],
+    log: &mut [u8],
+) -> io::Result<Option<Intake>>
     ensures { Turned t pattern.old log.old result pattern.new log.new }
 {
     let mut piece = [0u8; 65536];
-    match from.read(&mut piece) {
-        Err(error) => Turn::Failed(error),
-        Ok(0) => Turn::End,
-        Ok(n) => Turn::More(input::take_piece(&piece[..n], t, pattern, log)),
+    match from.read(&mut piece)? {
+        0 => Ok(None),
+        n => Ok(Some(input::take_piece(&piece[..n], t, pattern, log))),
     }
 }
 
 // Reads an input to its end. The turns are more than any run uses up.
-fn read_all<R: Read>(from: &mut R, pattern: &mut [u8], log: &mut [u8]) -> Input
+fn read_all<R: Read>(from: &mut R, pattern: &mut [u8], log: &mut [u8]) -> io::Result<Intake>
     ensures { Gathered result pattern.new log.new }
 {
     let mut t = Intake {
@@ -46,19 +36,12 @@ fn read_all<R: Read>(from: &mut R, pattern: &mut [u8], log: &mut [u8]) -> Input
         log: 0,
     };
     for _ in 0..u64::MAX {
-        match read_piece(from, t, pattern, log) {
-            Turn::More(next) => {
-                t = next;
-            }
-            Turn::End => {
-                return Input::Read(t);
-            }
-            Turn::Failed(error) => {
-                return Input::Failed(error);
-            }
+        match read_piece(from, t, pattern, log)? {
+            Some(next) => t = next,
+            None => return Ok(t),
         }
     }
-    Input::Failed(io::Error::from(ErrorKind::FileTooLarge))
+    Err(io::Error::from(ErrorKind::FileTooLarge))
 }
 
 // Room for every sheet: a log of 61,440 bytes has at most as many lines, a search no more answers than lines, and a printed
@@ -69,28 +52,14 @@ fn sheet_buffer() -> [u8; 800000]
     [0; 800000]
 }
 
-// The words of an error, of which those of a system's error end before its number.
-fn words(said: &[u8]) -> &[u8] {
-    let number = b" (os error ";
-    for n in 0..said.len() {
-        if said[n..].starts_with(number) {
-            return &said[..n];
-        }
-    }
-    said
-}
-
-// Says in a line what failed and why; where even that fails, there is no one to tell.
-fn fail(rt: &HostRuntime, what: &[u8], error: io::Error) -> io::Result<()> {
-    let mut said = [0u8; 128];
-    let mut room = &mut said[..];
-    let _ = write!(room, "{error}");
-    let used = 128usize.saturating_sub(room.len());
-    let to = rt.stderr();
-    Print::write_all(&to, what)?;
-    Print::write_all(&to, b": ")?;
-    Print::write_all(&to, words(&said[..used]))?;
-    Print::write_all(&to, b"\n")
+// Says in a line what failed and why, without the number that a system's error ends in; where even that fails, there is no one to tell.
+fn fail(rt: &HostRuntime, what: &str, error: io::Error) -> io::Result<()> {
+    let said = InlineText::<128>::of(error);
+    let text = said.as_str();
+    let words = text
+        .split_once(" (os error ")
+        .map_or(text, |(words, _)| words);
+    eprintln!(rt; "{what}: {words}")
 }
 
 // Writes a sheet to standard output, or says why it cannot. The buffers only say whose sheet it is: that of the input that was read.
@@ -98,7 +67,7 @@ fn put(rt: &HostRuntime, t: Intake, pattern: &[u8], log: &[u8], bytes: &[u8])
     requires { Prints t pattern.now log.now bytes.now }
 {
     if let Err(error) = rt.write_all(bytes) {
-        let _ = fail(rt, b"standard output", error);
+        let _ = fail(rt, "standard output", error);
     }
 }
 
@@ -121,11 +90,9 @@ fn main(rt: HostRuntime) {
     let mut pattern = [0u8; PATTERN_KEPT];
     let mut log = [0u8; LOG_KEPT];
     match read_all(&mut rt.stdin(), &mut pattern, &mut log) {
-        Input::Read(t) => {
-            print(&rt, t, &pattern, &log);
-        }
-        Input::Failed(error) => {
-            let _ = fail(&rt, b"standard input", error);
+        Ok(t) => print(&rt, t, &pattern, &log),
+        Err(error) => {
+            let _ = fail(&rt, "standard input", error);
         }
     }
 }

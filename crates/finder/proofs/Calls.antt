@@ -20,7 +20,7 @@ use Rattle.records.specs.Line.{says}
 use Rattle.meaning.specs.Meaning.{hits, over_table, table_in}
 use Rattle.meaning.specs.Refusals.{accepted, long_log, refusal}
 use Rattle.meaning.specs.Finding.{list_of, filling}
-use Rattle.meaning.specs.declared.Filled.{Filled}
+use Rattle.meaning.specs.Replies.{FillReply}
 use Rattle.meaning.proofs.Run.{says-few}
 use Rattle.meaning.proofs.Table.{table-in}
 use Rattle.meaning.proofs.Finding.{good-pattern, refused-list, accepted-number}
@@ -91,15 +91,15 @@ module _ (text log : List ℕ) (f : ℕ) (cells : List ℕ) (r : Readied) (e : r
   number_is = ap (λ (x : Readied). x.number) e
 
   whole : (w : Walked) (cells' : List ℕ) → Filling (list_of text log) f cells w cells'
-      → (◌≡◌ {A = Filled} (record { number = r.number; place = r.place; count = w.count; more = w.more }) (filling text log f cells)) × (cells' ≡ filled (list_of text log) f cells)
+      → (◌≡◌ {A = FillReply} (record { number = r.number; place = r.place; count = w.count; more = w.more }) (filling text log f cells)) × (cells' ≡ filled (list_of text log) f cells)
   whole w cells' g = ((λ i. record { number = (e i).number; place = (e i).place; count = g.count i; more = g.more i }), g.wrote)
 
   pub fill-refused : (r.number ≡ 0 → ⊥)
-      → (◌≡◌ {A = Filled} (record { number = r.number; place = r.place; count = 0; more = false }) (filling text log f cells)) × (cells ≡ filled (list_of text log) f cells)
+      → (◌≡◌ {A = FillReply} (record { number = r.number; place = r.place; count = 0; more = false }) (filling text log f cells)) × (cells ≡ filled (list_of text log) f cells)
   fill-refused n = whole (record { count = 0; more = false }) cells (filling-none (list_of text log) f cells (refused-list text log (refusal text log) refl (omega (arith, number_is))))
 
   pub fill-accepted : r.number ≡ 0 → (w : Walked) (cells' : List ℕ) → Filling (onward (list_in r.rows log) 0) f cells w cells'
-      → (◌≡◌ {A = Filled} (record { number = 0; place = 0; count = w.count; more = w.more }) (filling text log f cells)) × (cells' ≡ filled (list_of text log) f cells)
+      → (◌≡◌ {A = FillReply} (record { number = 0; place = 0; count = w.count; more = w.more }) (filling text log f cells)) × (cells' ≡ filled (list_of text log) f cells)
   fill-accepted z w cells' g =
       let zero_number : (refusal text log).number ≡ 0 = sym number_is ∙ z in
       let k = accepted-number text log zero_number in

@@ -14,7 +14,7 @@ use Rattle.stretches.specs.Filling.{more_after}
 use Rattle.stretches.specs.Run.{in_run}
 use Rattle.stretches.proofs.Filling.{filled-front, done_all, room-done, drop-step}
 use Rattle.lines.specs.Lines.{lines, Whole}
-use Rattle.meaning.specs.Refusals.{Refusal, refusal, accepted}
+use Rattle.meaning.specs.Refusals.{Signal, refusal, accepted}
 use Rattle.meaning.specs.Finding.{LocalText, list_of, filling}
 use Rattle.meaning.proofs.Finding.{good-pattern, accepted-number, list-few, run-accepted, run-list}
 use Rattle.finder.specs.declared.Finder.{Finder}
@@ -91,7 +91,7 @@ pub accepted-only : (pattern log : List ℕ) → Accepted pattern log → refusa
 accepted-only pattern log a = let k = accepted-number pattern log a.opens in good-pattern pattern log k.tree k.brief k.reads
 
 pub accepted-there : (pattern log : List ℕ) → refusal pattern log ≡ accepted → Accepted pattern log
-accepted-there pattern log e = let z : (refusal pattern log).number ≡ 0 = ap (λ (r : Refusal). r.number) e in record { opens = z; fills = λ from cells. z }
+accepted-there pattern log e = let z : (refusal pattern log).number ≡ 0 = ap (λ (r : Signal). r.number) e in record { opens = z; fills = λ from cells. z }
 
 -- ── Demand 3 ──
 

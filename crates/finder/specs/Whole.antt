@@ -13,7 +13,7 @@ use Rattle.finder.specs.Promises.{opened, stepped}
 -- the stretch, or "none"
 abbrev pub answer_of : front.Front → Answer
 answer_of front.None = None
-answer_of (front.At x) = Stretch x.start x.end
+answer_of (front.Some x) = Stretch x.start x.end
 
 -- the finder after n steps from the opening, each with that log: its next answer is number n of the list (`step-answer` of proofs/Stepping.antt)
 unfoldable pub after : List ℕ → List ℕ → ℕ → Finder

@@ -9,9 +9,9 @@ use native.Mathlib.Omega.{arith}
 use Rattle.basics.proofs.Basics.{cases}
 use Rattle.lines.specs.Lines.{stretch_lines, stretch_start}
 use Rattle.lines.proofs.StretchLaws.{stretch-part}
-use Rattle.meaning.specs.declared.Filled.{Filled}
+use Rattle.meaning.specs.Replies.{FillReply}
 use Rattle.meaning.specs.Finding.{filling}
-use Rattle.meaning.specs.declared.Reply.{Reply}
+use Rattle.meaning.specs.Replies.{Reply}
 use Rattle.meaning.specs.Refusals.{long_log}
 use Rattle.marking.specs.Rows.{counted}
 use Rattle.picks.specs.Picking.{picking}
@@ -31,7 +31,7 @@ parts : (a b c d w : ℕ) → w ≡ a + 256 * b + 65536 * c + 4294967296 * d →
     → (w < 2 ^ 64) × (refusal_in w ≡ a) × (flag_in w ≡ b) × (place_in w ≡ c) × (written_in w ≡ d)
 parts a b c d w e ha hb hc hd = (omega arith, omega arith, omega arith, omega arith, omega arith)
 
-reads-fill : (r : Filled) → (r.number ≤ 8) × (r.place ≤ 1024) × (r.count ≤ 65536) → ReadsFill (packed_fill r) r
+reads-fill : (r : FillReply) → (r.number ≤ 8) × (r.place ≤ 1024) × (r.count ≤ 65536) → ReadsFill (packed_fill r) r
 reads-fill r h =
     let p = parts r.number (bit r.more) r.place r.count (packed_fill r) refl (omega (arith, h.0)) (bit-small r.more) (omega (arith, h.1)) (omega (arith, h.2)) in
     record { fits = p.0; number = p.1; more = p.2; place = p.3; count = p.4 }

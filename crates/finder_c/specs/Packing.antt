@@ -1,8 +1,8 @@
 -- A call's result in one number of 64 bits, and the parts of it, as include/finder.h has them. Assumes nothing.
 use Rattle.std.specs.Prelude.{ℕ, ◌+◌, ◌*◌, ◌/◌, ◌%◌, ◌^◌, ◌<◌, ◌≡◌, Bool, cond, List, length, take, drop}
 use Rattle.lines.specs.Lines.{stretch_lines, stretch_start}
-use Rattle.meaning.specs.declared.Filled.{Filled}
-use Rattle.meaning.specs.declared.Reply.{Reply}
+use Rattle.meaning.specs.Replies.{FillReply}
+use Rattle.meaning.specs.Replies.{Reply}
 use Rattle.meaning.specs.Refusals.{long_log}
 use Rattle.marking.specs.Rows.{counted}
 use Rattle.taking.specs.declared.Taken.{Taken}
@@ -11,7 +11,7 @@ abbrev pub bit : Bool → ℕ
 bit b = cond b 1 0
 
 -- bits 0 to 7 the refusal's number (0: accepted), bit 8 "more", bits 16 to 31 the place, bits 32 to 63 the stretches written
-abbrev pub packed_fill : Filled → ℕ
+abbrev pub packed_fill : FillReply → ℕ
 packed_fill r = r.number + 256 * bit r.more + 65536 * r.place + 4294967296 * r.count
 
 -- the same with bit 8 zero, bits 32 to 63 the count: of picks, or of triples
@@ -59,7 +59,7 @@ abbrev pub start_in : ℕ → ℕ
 start_in w = w % 4294967296
 
 -- the word has 64 bits, and its parts are the result
-pub record ReadsFill (w : ℕ) (r : Filled) : Type 0 where
+pub record ReadsFill (w : ℕ) (r : FillReply) : Type 0 where
   pub fits : w < 2 ^ 64
   pub number : refusal_in w ≡ r.number
   pub more : flag_in w ≡ bit r.more

@@ -10,7 +10,9 @@ use lib.ListN.{length}
 use lib.Dec.{leb, ltb, eqb}
 use borrow.Author.Tests.{leb-true, ltb-true, eqb-true, le-leb}
 use Rattle.basics.proofs.Basics.{cases, and-true, le-or-lt}
-use Rattle.stretches.specs.Stretch.{Stretch, st, marks, any_of, keep, keep_first, at_most, Or, answers}
+use Rattle.stretches.specs.declared.Stretch.{Stretch}
+use Rattle.stretches.specs.Stretch.{st, marks, any_of, keep, keep_first, at_most, Or, answers}
+use Rattle.stretches.specs.declared.Node.{Node}
 use Rattle.stretches.specs.Table.{kind_at, first_at, second_at, next_of, stop_of, operands_up, operand_numbers}
 use Rattle.stretches.specs.inner.Operands.{operands_from}
 use Rattle.stretches.proofs.Marks.{marks-clear, keep-marks}
@@ -27,24 +29,24 @@ use Rattle.folding.proofs.FoldLeaf.{Before, leaf-before, leaf-lists, leaf-good}
 -- ── Rows in use ──
 
 -- what the test of a row says
-pub record IsRow (rows : List ℕ) (width free v : ℕ) : Type 0 where
+pub record IsRow (rows : List Node) (width free v : ℕ) : Type 0 where
   pub kind : kind_at rows v ≡ 16
   pub second : second_at rows v ≡ width
   pub ends : first_at rows v + width ≤ free
 
-is_row : (rows : List ℕ) (width free v : ℕ) → row_before rows width free v ≡ true → IsRow rows width free v
-is_row rows width free v h =
+is-row : (rows : List Node) (width free v : ℕ) → row_before rows width free v ≡ true → IsRow rows width free v
+is-row rows width free v h =
     let a = and-true (eqb (kind_at rows v) 16) (eqb (second_at rows v) width && leb (first_at rows v + width) free) h in
     let b = and-true (eqb (second_at rows v) width) (leb (first_at rows v + width) free) a.1 in
     record { kind = eqb-true (kind_at rows v) 16 a.0; second = eqb-true (second_at rows v) width b.0; ends = leb-true (first_at rows v + width) free b.1 }
 
 -- of the first, and of the others
-pub are-rows : (rows : List ℕ) (width free c : ℕ) (cs : List ℕ) → rows_before rows width free (c ∷ cs) ≡ true → IsRow rows width free c × (rows_before rows width free cs ≡ true)
+pub are-rows : (rows : List Node) (width free c : ℕ) (cs : List ℕ) → rows_before rows width free (c ∷ cs) ≡ true → IsRow rows width free c × (rows_before rows width free cs ≡ true)
 unfolding rows_before
-are-rows rows width free c cs h = let a = and-true (row_before rows width free c) (rows_before rows width free cs) h in (is_row rows width free c a.0, a.1)
+are-rows rows width free c cs h = let a = and-true (row_before rows width free c) (rows_before rows width free cs) h in (is-row rows width free c a.0, a.1)
 
 -- rows of a width have no more lines together
-pub any-most : (rows words : List ℕ) (width : ℕ) (cs : List ℕ) → length (any_of (map (λ c. row words (first_at rows c) width) cs)) ≤ 64 * width
+pub any-most : (rows : List Node) (words : List ℕ) (width : ℕ) (cs : List ℕ) → length (any_of (map (λ c. row words (first_at rows c) width) cs)) ≤ 64 * width
 any-most rows words width [] = omega arith
 any-most rows words width (c ∷ cs) = either-most (64 * width) (row words (first_at rows c) width) (any_of (map (λ c. row words (first_at rows c) width) cs)) (row-most words (first_at rows c) width) (any-most rows words width cs)
 
@@ -54,7 +56,7 @@ Single sound = (p : ℕ) → measured_by sound (st p p) ≤ 1
 
 -- ── `or` and `max` over rows ──
 
-module _ (items sound words rows : List ℕ) (width free : ℕ) where
+module _ (items sound words : List ℕ) (rows : List Node) (width free : ℕ) where
   abbrev src : Source
   src = source words items sound
 
@@ -152,7 +154,7 @@ module _ (items sound : List ℕ) (single : Single sound) (width v : ℕ) (lv : 
       (λ t.
       let h = and-true x (y && z) t in
       let i = and-true y z h.1 in
-      let r = is_row f.rows width f.free (v + 1) i.0 in
+      let r = is-row f.rows width f.free (v + 1) i.0 in
       kept-leaf items sound f f.words v (first_at f.rows (v + 1)) width f.free lv b (λ u lu e. refl)
       (max-row items sound f.words f.rows width f.free v lv single k (ltb-true (v + 1) (stop_of f.rows v) h.0) r (leb-true 1 (first_at f.rows v) i.1)) r.ends (omega arith))
       (λ t. kept_same items sound f b)

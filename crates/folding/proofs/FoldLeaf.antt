@@ -6,14 +6,16 @@ use mathlib.Core.Logic.{◌⊎◌, inl, inr}
 use mathlib.Core.Bool.{cond}
 use mathlib.Core.List.{List, []}
 use native.Mathlib.Omega.{arith}
-use lib.ListN.{length, get_or, set, length-set}
+use lib.ListN.{length, length-set}
 use lib.Seq.{get_or-set_same, get_or-set_other}
 use lib.Dec.{eqb}
 use borrow.Author.Tests.{eqb-true}
 use Rattle.basics.proofs.Basics.{cases, eq-or-ne}
-use Rattle.stretches.specs.Stretch.{Stretch, Fine, marks}
+use Rattle.stretches.specs.declared.Stretch.{Stretch}
+use Rattle.stretches.specs.Stretch.{Fine, marks}
 use Rattle.stretches.specs.Operators.{operator_of, apply}
-use Rattle.stretches.specs.Table.{kind_at, size_at, first_at, second_at, Given, list_at}
+use Rattle.stretches.specs.declared.Node.{Node}
+use Rattle.stretches.specs.Table.{no_node, node_at, kind_at, size_at, first_at, second_at, third_at, Given, list_at}
 use Rattle.stretches.specs.inner.Operands.{operands_of}
 use Rattle.stretches.proofs.Table.{list-node, same_lists}
 use Rattle.marks.specs.Row.{row}
@@ -22,59 +24,59 @@ use Rattle.folding.specs.Fold.{with_leaf}
 use Rattle.seek.proofs.Nodes.{fine}
 
 -- a table whose rows of marks end at or before place free
-pub record Before (rows : List ℕ) (free : ℕ) : Type 0 where
-  pub wide : length rows ≡ 160
+pub record Before (rows : List Node) (free : ℕ) : Type 0 where
+  pub wide : length rows ≡ 32
   pub ends : (v : ℕ) → v < 32 → kind_at rows v ≡ 16 → first_at rows v + second_at rows v ≤ free
 
 apart : {u v : ℕ} → (u < v) ⊎ (v < u) → u ≡ v → ⊥
 apart (inl h) z = omega arith
 apart (inr h) z = omega arith
 
-module _ (rows : List ℕ) (v at width : ℕ) (wide : length rows ≡ 160) (lv : v < 32) where
-  abbrev rows' : List ℕ
+module _ (rows : List Node) (v at width : ℕ) (wide : length rows ≡ 32) (lv : v < 32) where
+  abbrev rows' : List Node
   rows' = with_leaf rows v at width
 
   -- ── Its numbers ──
 
-  pub leaf-wide : length rows' ≡ 160
+  pub leaf-wide : length rows' ≡ 32
   unfolding with_leaf
-  leaf-wide = simp (length-set, length-set, length-set) wide
+  leaf-wide = length-set rows v _ ∙ wide
+
+  pub leaf-node : node_at rows' v ≡ record { kind = 16; size = size_at rows v; first = at; second = width; third = third_at rows v }
+  unfolding with_leaf
+  leaf-node = get_or-set_same rows v _ no_node (omega arith)
 
   pub leaf-kind : kind_at rows' v ≡ 16
-  unfolding with_leaf
-  leaf-kind =
-      get_or-set_other (set (set rows v 16) (64 + v) at) (96 + v) v width 0 (λ z. omega arith) ∙ get_or-set_other (set rows v 16) (64 + v) v at 0 (λ z. omega arith)
-      ∙ get_or-set_same rows v 16 0 (omega arith)
+  leaf-kind = ap (λ (n : Node). n.kind) leaf-node
 
   pub leaf_first : first_at rows' v ≡ at
-  unfolding with_leaf
-  leaf_first =
-      get_or-set_other (set (set rows v 16) (64 + v) at) (96 + v) (64 + v) width 0 (λ z. omega arith)
-      ∙ get_or-set_same (set rows v 16) (64 + v) at 0 (omega (arith, length-set rows v 16))
+  leaf_first = ap (λ (n : Node). n.first) leaf-node
 
   pub leaf-second : second_at rows' v ≡ width
-  unfolding with_leaf
-  leaf-second = get_or-set_same (set (set rows v 16) (64 + v) at) (96 + v) width 0 (omega (arith, length-set (set rows v 16) (64 + v) at, length-set rows v 16))
+  leaf-second = ap (λ (n : Node). n.second) leaf-node
 
-  -- every other cell is as it was
-  leaf-else : (j : ℕ) → (j ≡ v → ⊥) → (j ≡ 64 + v → ⊥) → (j ≡ 96 + v → ⊥) → get_or rows' j 0 ≡ get_or rows j 0
+  -- every other node is as it was
+  pub else-node : (u : ℕ) → (u ≡ v → ⊥) → node_at rows' u ≡ node_at rows u
   unfolding with_leaf
-  leaf-else j a b c =
-      get_or-set_other (set (set rows v 16) (64 + v) at) (96 + v) j width 0 c ∙ get_or-set_other (set rows v 16) (64 + v) j at 0 b ∙ get_or-set_other rows v j 16 0 a
+  else-node u n = get_or-set_other rows v u _ no_node n
 
-  pub leaf-size : (u : ℕ) → u < 32 → size_at rows' u ≡ size_at rows u
-  leaf-size u h = leaf-else (32 + u) (λ z. omega arith) (λ z. omega arith) (λ z. omega arith)
+  pub leaf-size : (u : ℕ) → size_at rows' u ≡ size_at rows u
+  leaf-size u = go (eq-or-ne u v)
+    where
+      go : (u ≡ v) ⊎ ((u < v) ⊎ (v < u)) → size_at rows' u ≡ size_at rows u
+      go (inl z) = subst (λ (u : ℕ). size_at rows' u ≡ size_at rows u) (sym z) (ap (λ (n : Node). n.size) leaf-node)
+      go (inr n) = ap (λ (n : Node). n.size) (else-node u (apart n))
 
   -- another node's numbers
-  module _ (u : ℕ) (lu : u < 32) (n : u ≡ v → ⊥) where
+  module _ (u : ℕ) (n : u ≡ v → ⊥) where
     pub else-kind : kind_at rows' u ≡ kind_at rows u
-    else-kind = leaf-else u n (λ z. omega arith) (λ z. omega arith)
+    else-kind = ap (λ (n : Node). n.kind) (else-node u n)
 
     pub else-first : first_at rows' u ≡ first_at rows u
-    else-first = leaf-else (64 + u) (λ z. omega arith) (λ z. n (omega arith)) (λ z. omega arith)
+    else-first = ap (λ (n : Node). n.first) (else-node u n)
 
     pub else-second : second_at rows' u ≡ second_at rows u
-    else-second = leaf-else (96 + u) (λ z. omega arith) (λ z. omega arith) (λ z. n (omega arith))
+    else-second = ap (λ (n : Node). n.second) (else-node u n)
 
   -- the row ends before a place that lies no lower
   pub leaf-before : (free free' : ℕ) → Before rows free → at + width ≤ free' → free ≤ free' → Before rows' free'
@@ -84,7 +86,7 @@ module _ (rows : List ℕ) (v at width : ℕ) (wide : length rows ≡ 160) (lv :
       go u lu (inl z) e = subst (λ (u : ℕ). first_at rows' u + second_at rows' u ≤ free') (sym z) (omega (arith, leaf_first, leaf-second))
       go u lu (inr n) e =
           let z = apart n in
-          omega (arith, else-first u lu z, else-second u lu z, b.ends u lu (sym (else-kind u lu z) ∙ e))
+          omega (arith, else-first u z, else-second u z, b.ends u lu (sym (else-kind u z) ∙ e))
 
   -- ── The lists ──
 
@@ -107,13 +109,13 @@ module _ (rows : List ℕ) (v at width : ℕ) (wide : length rows ≡ 160) (lv :
         let a = first_at rows u in
         let b = second_at rows u in
         let other = cond (eqb (kind_at rows u) 17) (lent items a b) [] in
-        ap (λ (k : ℕ). own_list (source words' items sound) k (first_at rows' u) (second_at rows' u)) (else-kind u lu n)
-        ∙ ap₂ (λ (a b : ℕ). own_list (source words' items sound) (kind_at rows u) a b) (else-first u lu n) (else-second u lu n)
+        ap (λ (k : ℕ). own_list (source words' items sound) k (first_at rows' u) (second_at rows' u)) (else-kind u n)
+        ∙ ap₂ (λ (a b : ℕ). own_list (source words' items sound) (kind_at rows u) a b) (else-first u n) (else-second u n)
         ∙ cases (eqb (kind_at rows u) 16) (λ t. cond t (marks 0 (row words' a b)) other ≡ cond t (marks 0 (row words a b)) other)
         (λ e. ap (marks 0) (others u lu (eqb-true (kind_at rows u) 16 e))) (λ e. refl)
 
-    leaf-node : (u : ℕ) → u < 32 → apply (operator_of new.measure (kind_at rows' u) (first_at rows' u)) (new.own u) (operands_of old rows u) ≡ list_at old rows u
-    leaf-node u lu = go (eq-or-ne u v)
+    leaf-apply : (u : ℕ) → u < 32 → apply (operator_of new.measure (kind_at rows' u) (first_at rows' u)) (new.own u) (operands_of old rows u) ≡ list_at old rows u
+    leaf-apply u lu = go (eq-or-ne u v)
       where
         go : (u ≡ v) ⊎ ((u < v) ⊎ (v < u)) → apply (operator_of new.measure (kind_at rows' u) (first_at rows' u)) (new.own u) (operands_of old rows u) ≡ list_at old rows u
         go (inl z) =
@@ -121,12 +123,12 @@ module _ (rows : List ℕ) (v at width : ℕ) (wide : length rows ≡ 160) (lv :
             (ap (λ (k : ℕ). apply (operator_of new.measure k (first_at rows' v)) (new.own v) (operands_of old rows v)) leaf-kind ∙ leaf-own)
         go (inr n) =
             let z = apart n in
-            ap₂ (λ (k a : ℕ). apply (operator_of new.measure k a) (new.own u) (operands_of old rows u)) (else-kind u lu z) (else-first u lu z)
+            ap₂ (λ (k a : ℕ). apply (operator_of new.measure k a) (new.own u) (operands_of old rows u)) (else-kind u z) (else-first u z)
             ∙ ap (λ (l : List Stretch). apply (operator_of new.measure (kind_at rows u) (first_at rows u)) l (operands_of old rows u)) (else-own u lu z)
             ∙ sym (list-node old rows u lu)
 
     pub leaf-lists : (u : ℕ) → list_at new rows' u ≡ list_at old rows u
-    leaf-lists = same_lists old new rows rows' leaf-size leaf-node
+    leaf-lists = same_lists old new rows rows' (λ u _. leaf-size u) leaf-apply
 
     -- own lists stay fine
     pub leaf-good : Good (source words items sound) rows → Good (source words' items sound) rows'

@@ -7,33 +7,22 @@ use mathlib.Core.Bool.{Bool, true, false, cond, ◌&&◌}
 use mathlib.Core.List.{List, [], ◌∷◌, map}
 use native.Mathlib.Omega.{arith}
 use lib.ListN.{length, replicate, length-replicate}
-use lib.Dec.{leb, eqb}
-use borrow.Author.Tests.{leb-true, leb-false, eq-eqb, ne_eqb, le-leb, lt-leb, le-ltb, lt-ltb}
-use Rattle.basics.proofs.Basics.{cases}
 use Rattle.stretches.specs.Stretch.{either, any_of}
-use Rattle.stretches.specs.Table.{kind_at, first_at, second_at, next_of, stop_of, operands_up, operand_numbers}
+use Rattle.stretches.specs.declared.Node.{Node}
+use Rattle.stretches.specs.Table.{first_at, next_of, operands_up, operand_numbers}
 use Rattle.stretches.proofs.Table.{up_more, up-end}
 use Rattle.stretches.proofs.Union.{either-none, either-three, either-clear}
 use Rattle.marks.specs.Row.{lies, row, with_row, united}
 use Rattle.marks.proofs.Rows.{lies-true, true-lies, row-length}
 use Rattle.marks.proofs.United.{true-apart, united-is, length-either}
 use Rattle.marks.proofs.WithRow.{with-length, with-other, with-row, with-again, with-clear}
-use Rattle.folding.specs.Fold.{Folding, folding, row_before, rows_before, with_leaf, fold_or, max_folded, fold_node, folded}
+use Rattle.folding.specs.Fold.{Folding, folding, row_before, rows_before, with_leaf, fold_or, fold_node, folded}
 use Rattle.folding.specs.inner.Uniting.{united_all}
 use Rattle.folding.proofs.FoldLaws.{are-rows, any-most}
 
 -- ── Rows in use ──
 
--- the last test of `is_row`
-pub row-test : (rows : List ℕ) (width free v : ℕ) → kind_at rows v ≡ 16 → second_at rows v ≡ width → width ≤ free → leb (first_at rows v) (free - width) ≡ row_before rows width free v
-row-test rows width free v k w h =
-    let a = first_at rows v in
-    cases (leb (a + width) free) (λ b. leb a (free - width) ≡ b)
-    (λ e. let l = leb-true (a + width) free e in le-leb a (free - width) (omega arith))
-    (λ e. let l = leb-false (a + width) free e in lt-leb a (free - width) (omega arith))
-    ∙ sym (ap₂ (λ x y. x && (y && leb (a + width) free)) (eq-eqb (kind_at rows v) 16 k) (eq-eqb (second_at rows v) width w))
-
-module _ (rows : List ℕ) (width free stop : ℕ) (s : stop ≤ 32) where
+module _ (rows : List Node) (width free stop : ℕ) (s : stop ≤ 32) where
   -- the operand at c decides, or those behind it
   pub rows-turn : (c : ℕ) (b : Bool) → c < stop → row_before rows width free c ≡ b
       → rows_before rows width free (operands_up rows stop c) ≡ (b && rows_before rows width free (operands_up rows stop (next_of rows c)))
@@ -44,11 +33,9 @@ module _ (rows : List ℕ) (width free stop : ℕ) (s : stop ≤ 32) where
   unfolding rows_before
   rows_end c h = ap (rows_before rows width free) (up-end rows stop c h)
 
--- ── The cleared row ──
-
 -- ── The united row ──
 
-module _ (rows : List ℕ) (to width stop : ℕ) (s : stop ≤ 32) where
+module _ (rows : List Node) (to width stop : ℕ) (s : stop ≤ 32) where
   pub unite-turn : (words : List ℕ) (c : ℕ) → c < stop
       → united_all rows words to width (operands_up rows stop c) ≡ united_all rows (united words to (first_at rows c) width) to width (operands_up rows stop (next_of rows c))
   unfolding united_all
@@ -58,7 +45,7 @@ module _ (rows : List ℕ) (to width stop : ℕ) (s : stop ≤ 32) where
   unfolding united_all
   unite-end words c h = ap (united_all rows words to width) (up-end rows stop c h)
 
-module _ (rows words : List ℕ) (to width : ℕ) (h : lies (length words) to width ≡ true) where
+module _ (rows : List Node) (words : List ℕ) (to width : ℕ) (h : lies (length words) to width ≡ true) where
   abbrev row_of : ℕ → List Bool
   row_of c = row words (first_at rows c) width
 
@@ -96,7 +83,7 @@ module _ (rows words : List ℕ) (to width : ℕ) (h : lies (length words) to wi
 
 -- ── A node ──
 
-module _ (rows words : List ℕ) (width free v : ℕ) where
+module _ (rows : List Node) (words : List ℕ) (width free v : ℕ) where
   abbrev f : Folding
   f = folding rows words free
 
@@ -114,45 +101,13 @@ module _ (rows words : List ℕ) (width free v : ℕ) where
   unfolding fold_or
   or-other h e = sym (ap₂ (λ a b. cond (a && b) made f) h e)
 
-  pub or-made : {rows' ws ws' : List ℕ} → lies (length words) free width ≡ true → rows_before rows width free (operand_numbers rows v) ≡ true → ws ≡ with_row words free width []
+  pub or-made : {rows' : List Node} {ws ws' : List ℕ} → lies (length words) free width ≡ true → rows_before rows width free (operand_numbers rows v) ≡ true → ws ≡ with_row words free width []
       → ws' ≡ united_all rows ws free width (operand_numbers rows v) → rows' ≡ with_leaf rows v free width → folding rows' ws' (free + width) ≡ fold_or width v f
   unfolding fold_or
   or-made h e clear all put =
-      ap₂ (λ (r w : List ℕ). folding r w (free + width)) put
+      ap₂ (λ (r : List Node) (w : List ℕ). folding r w (free + width)) put
       (all ∙ ap (λ (w : List ℕ). united_all rows w free width (operand_numbers rows v)) clear ∙ united-rows rows words free width h (operand_numbers rows v) e)
       ∙ sym (ap₂ (λ a b. cond (a && b) made f) h e)
-
-module _ (rows : List ℕ) (width free v : ℕ) where
-  abbrev leaf : List ℕ
-  leaf = with_leaf rows v (first_at rows (v + 1)) width
-
-  -- `fold_max`: no operand, one that is no row, the bound 0, and the operand's row
-  pub max_none : stop_of rows v ≤ v + 1 → rows ≡ max_folded rows width free v
-  unfolding max_folded
-  max_none h = sym (ap (λ b. cond (b && (row_before rows width free (v + 1) && leb 1 (first_at rows v))) leaf rows) (le-ltb (v + 1) (stop_of rows v) h))
-
-  module _ (h : v + 1 < stop_of rows v) where
-    pub max-other : row_before rows width free (v + 1) ≡ false → rows ≡ max_folded rows width free v
-    unfolding max_folded
-    max-other e = sym (ap₂ (λ a b. cond (a && (b && leb 1 (first_at rows v))) leaf rows) (lt-ltb (v + 1) (stop_of rows v) h) e)
-
-    pub max-bound : (b : Bool) → row_before rows width free (v + 1) ≡ true → leb 1 (first_at rows v) ≡ b → cond b leaf rows ≡ max_folded rows width free v
-    unfolding max_folded
-    max-bound b e k = ap (λ x. cond x leaf rows) (sym k) ∙ sym (ap₂ (λ x y. cond (x && (y && leb 1 (first_at rows v))) leaf rows) (lt-ltb (v + 1) (stop_of rows v) h) e)
-
-module _ (width v : ℕ) (f : Folding) where
-  abbrev maxed : Folding
-  maxed = folding (max_folded f.rows width f.free v) f.words f.free
-
-  -- `fold_node`, by the kind
-  pub node-or : (g : Folding) → kind_at f.rows v ≡ 1 → g ≡ fold_or width v f → g ≡ fold_node width v f
-  unfolding fold_node
-  node-or g k e = e ∙ sym (ap (λ b. cond b (fold_or width v f) (cond (eqb (kind_at f.rows v) 6) maxed f)) (eq-eqb (kind_at f.rows v) 1 k))
-
-  pub node-max : (b : Bool) → (kind_at f.rows v ≡ 1 → ⊥) → eqb (kind_at f.rows v) 6 ≡ b → cond b maxed f ≡ fold_node width v f
-  unfolding fold_node
-  node-max b n k =
-      ap (λ x. cond x maxed f) (sym k) ∙ sym (ap (λ b. cond b (fold_or width v f) (cond (eqb (kind_at f.rows v) 6) maxed f)) (ne_eqb (kind_at f.rows v) 1 n))
 
 -- ── All nodes ──
 

@@ -1,106 +1,52 @@
 -- The input parted at its first line feed, and the pieces put together: whatever the pieces, pattern and log are kept as far as the buffers go.
 -- Assumes nothing.
-use Prim.Native.Nat.{ℕ, suc, ◌+◌, ◌-◌, ◌≤◌, ◌<◌, min}
+use Prim.Native.Nat.{ℕ, zero, suc, ◌+◌, ◌-◌, ◌≤◌, ◌<◌, min}
 use mathlib.Core.Path.{◌≡◌, refl, sym, ap, ap₂, subst, ◌∙◌}
 use mathlib.Core.Logic.{◌⊎◌, inl, inr}
 use mathlib.Core.Bool.{Bool, true, false, cond, ◌||◌}
 use mathlib.Core.List.{List, [], ◌∷◌, ◌++◌, append-nil, append_assoc}
-use lib.ListN.{length, get_or, set, take, drop, length-append, length-set, length-drop, drop_of_length-le}
-use lib.Seq.{sets, length-sets, set_out, drop-cons, take_all, take-append-le, take-suc-set, take-nil}
+use lib.ListN.{length, get_or, set, take, drop, length-append, length-set, length-drop}
+use lib.Seq.{sets, length-sets, set_out, take_all, take-append-le, take-suc-set, take-nil, length-take-le}
+use Rattle.std.proofs.lemmas.List.{take-append-drop}
 use lib.Dec.{eqb}
-use borrow.Author.Tests.{eq-eqb, ne_eqb}
+use borrow.Rule.Slice.PartMut.{put_mid}
+use Rattle.std.specs.List.{position_or_len}
+use Rattle.std.specs.Prelude.{◌==◌, not, position, None, Some}
+use Rattle.std.proofs.lemmas.Grind.{common_steps}
+use Rattle.std.proofs.lemmas.List.Quantifiers.{position-Some}
 use native.Mathlib.Omega.{arith}
-use Rattle.basics.proofs.Basics.{cases, le-or-lt}
+use Rattle.basics.proofs.Basics.{cases, le-or-lt, put_sets}
 use Rattle.input.specs.declared.Intake.{Intake}
-use Rattle.input.specs.declared.Parting.{Parting}
 use Rattle.input.specs.Input.{pattern_of, log_of, feed_in, pattern_part, log_part, Kept, TakenIn, Holds, Keeps}
-use Rattle.input.specs.inner.Parting.{Parts}
-
--- ── The first line feed ──
-
-pattern-feed : (b : ℕ) (s : List ℕ) → b ≡ 10 → pattern_of (b ∷ s) ≡ []
-pattern-feed b s e = rw (eq-eqb b 10 e)
-
-pattern-other : (b : ℕ) (s : List ℕ) → (b ≡ 10 → ⊥) → pattern_of (b ∷ s) ≡ b ∷ pattern_of s
-pattern-other b s n = rw (ne_eqb b 10 n)
-
--- the line feed is at place i
-pub feed-here : (s : List ℕ) (i : ℕ) → i < length s → get_or s i 0 ≡ 10 → length (pattern_of (drop i s)) ≡ 0
-feed-here s i h e = ap (λ (l : List ℕ). length (pattern_of l)) (drop-cons s i 0 h) ∙ ap length (pattern-feed (get_or s i 0) (drop (suc i) s) e)
-
--- it is behind place i
-pub feed-later : (s : List ℕ) (i : ℕ) → i < length s → (get_or s i 0 ≡ 10 → ⊥) → length (pattern_of (drop i s)) ≡ length (pattern_of (drop (i + 1) s)) + 1
-feed-later s i h n =
-    let z : suc i ≡ i + 1 = omega arith in
-    let e : length (pattern_of (drop i s)) ≡ suc (length (pattern_of (drop (suc i) s))) =
-    ap (λ (l : List ℕ). length (pattern_of l)) (drop-cons s i 0 h) ∙ ap length (pattern-other (get_or s i 0) (drop (suc i) s) n) in
-    omega (arith, e, ap (λ (k : ℕ). length (pattern_of (drop k s))) z)
-
--- there is none
-pub feed-none : (s : List ℕ) (i : ℕ) → length s ≤ i → length (pattern_of (drop i s)) ≡ 0
-feed-none s i h = ap (λ (l : List ℕ). length (pattern_of l)) (drop_of_length-le s h)
 
 -- ── A piece parted ──
 
-pub pattern-within : (s : List ℕ) → (length (pattern_of s) ≤ length s) × (take (length (pattern_of s)) s ≡ pattern_of s)
-pattern-within [] = (omega arith, refl)
-pattern-within (b ∷ s) =
-    cases (eqb b 10) (λ (t : Bool). (length (cond t [] (b ∷ pattern_of s)) ≤ suc (length s)) × (take (length (cond t [] (b ∷ pattern_of s))) (b ∷ s) ≡ cond t [] (b ∷ pattern_of s)))
-    (λ e. (omega arith, refl)) (λ e. (omega (arith, (pattern-within s).0), ap (λ (l : List ℕ). b ∷ l) (pattern-within s).1))
+-- a test for the line feed
+abbrev is_feed : ℕ → Bool
+is_feed b = b == 10
 
-pub feed-absent : (s : List ℕ) → length s ≤ length (pattern_of s) → (feed_in s ≡ false) × (log_of s ≡ [])
-feed-absent [] = λ h. (refl, refl)
-feed-absent (b ∷ s) =
-    cases (eqb b 10) (λ (t : Bool). suc (length s) ≤ length (cond t [] (b ∷ pattern_of s)) → (t || feed_in s ≡ false) × (cond t s (log_of s) ≡ []))
-    (λ e h. absurd (omega arith)) (λ e h. feed-absent s (omega arith))
+absent : (s : List ℕ) → length s ≤ position_or_len is_feed s → (feed_in s ≡ false) × (s ≡ pattern_of s) × (log_of s ≡ [])
+absent [] = λ h. (refl, refl, refl)
+absent (b ∷ s) =
+    cases (eqb b 10) (λ t. suc (length s) ≤ cond (not t) (1 + position_or_len is_feed s) 0 → (t || feed_in s ≡ false) × (b ∷ s ≡ cond t [] (b ∷ pattern_of s)) × (cond t s (log_of s) ≡ []))
+    (λ e h. absurd (omega arith)) (λ e h. let r = absent s (omega arith) in (r.0, ap (λ l. b ∷ l) r.1, r.2))
 
-pub feed-there : (s : List ℕ) → length (pattern_of s) < length s → (feed_in s ≡ true) × (drop (suc (length (pattern_of s))) s ≡ log_of s)
-feed-there [] = λ h. absurd (omega arith)
-feed-there (b ∷ s) =
-    cases (eqb b 10) (λ (t : Bool). length (cond t [] (b ∷ pattern_of s)) < suc (length s) → (t || feed_in s ≡ true) × (drop (length (cond t [] (b ∷ pattern_of s))) s ≡ cond t s (log_of s)))
-    (λ e h. (refl, refl)) (λ e h. feed-there s (omega arith))
+pub feed-absent : (s : List ℕ) → None ≡ position is_feed s → (feed_in s ≡ false) × (s ≡ pattern_of s) × (log_of s ≡ [])
+feed-absent s e = absent s (grind (arith, common_steps))
 
--- the three ways: the line feed had come; it does not come in the piece; it comes
-pub parts-log : (s : List ℕ) (ended : Bool) → ended ≡ true → Parts s ended (record { ended = true; cut = 0; next = 0 })
-parts-log s ended e = subst (λ (b : Bool). Parts s b (record { ended = true; cut = 0; next = 0 })) (sym e) (record { ended = refl; front = refl; back = refl; within = (omega arith, omega arith) })
+first : (s : List ℕ) (i : ℕ) → i < length s → is_feed (get_or s i 0) ≡ true → ((k : ℕ) → k < i → is_feed (get_or s k 0) ≡ false) → (feed_in s ≡ true) × (take i s ≡ pattern_of s) × (drop (suc i) s ≡ log_of s)
+first [] i h t f = absurd (omega arith)
+first (b ∷ s) zero h t f = rw t (refl, refl, refl)
+first (b ∷ s) (suc i) h t f =
+    let r = first s i (omega arith) t (λ k l. f (suc k) (omega arith)) in
+    rw (f 0 (omega arith)) (r.0, ap (λ l. b ∷ l) r.1, r.2)
 
-pub parts_none : (s : List ℕ) (ended : Bool) (n : ℕ) → ended ≡ false → n ≡ length (pattern_of s) → length s ≤ n → Parts s ended (record { ended = false; cut = n; next = n })
-parts_none s ended n e p h =
-    let w = pattern-within s in
-    let f = feed-absent s (omega arith) in
-    subst (λ (b : Bool). Parts s b (record { ended = false; cut = n; next = n })) (sym e)
-    (record {
-      ended = sym f.0;
-      front = ap (λ (k : ℕ). take k s) p ∙ w.1;
-      back = drop_of_length-le s h ∙ sym f.1;
-      within = (omega (arith, w.0), omega (arith, w.0));
-    })
-
-pub parts-feed : (s : List ℕ) (ended : Bool) (n : ℕ) → ended ≡ false → n ≡ length (pattern_of s) → n < length s → Parts s ended (record { ended = true; cut = n; next = n + 1 })
-parts-feed s ended n e p h =
-    let w = pattern-within s in
-    let f = feed-there s (omega arith) in
-    let z : n + 1 ≡ suc (length (pattern_of s)) = omega arith in
-    subst (λ (b : Bool). Parts s b (record { ended = true; cut = n; next = n + 1 })) (sym e)
-    (record {
-      ended = sym f.0;
-      front = ap (λ (k : ℕ). take k s) p ∙ w.1;
-      back = ap (λ (k : ℕ). drop k s) z ∙ f.1;
-      within = (omega arith, omega arith);
-    })
-
--- the parts are kept
-pub parts-kept : (piece : List ℕ) (t : Intake) (d : Parting) (p l p' l' : List ℕ) (m n : ℕ) → Parts piece t.ended d
-    → Kept p t.pattern (take d.cut piece) m p' → Kept l t.log (take (length piece - d.next) (drop d.next piece)) n l'
-    → TakenIn piece t p l (record { ended = d.ended; pattern = m; log = n }) p' l'
-parts-kept piece t d p l p' l' m n h a b =
-    let z : take (length piece - d.next) (drop d.next piece) ≡ log_part t.ended piece =
-    take_all (length piece - d.next) (drop d.next piece) (omega (arith, length-drop d.next piece)) ∙ h.back in
-    record {
-      ended = h.ended;
-      pattern = subst (λ (s : List ℕ). Kept p t.pattern s m p') h.front a;
-      log = subst (λ (s : List ℕ). Kept l t.log s n l') z b;
-    }
+pub feed-there : (s : List ℕ) (i : ℕ) → Some i ≡ position is_feed s → (feed_in s ≡ true) × (take i s ≡ pattern_of s) × (take (length s - (i + 1)) (drop (i + 1) s) ≡ log_of s)
+feed-there s i e =
+    let p = position-Some is_feed s i 0 (sym e) in
+    let r = first s i p.0 p.1 p.2 in
+    let z : i + 1 ≡ suc i = omega arith in
+    (r.0, r.1, take_all (length s - (i + 1)) (drop (i + 1) s) (omega (arith, length-drop (i + 1) s)) ∙ ap (λ k. drop k s) z ∙ r.2)
 
 -- ── Pieces put together ──
 
@@ -126,12 +72,21 @@ pub sets-past : (a l : List ℕ) (i : ℕ) → length l ≤ i → sets l i a ≡
 sets-past [] l i h = refl
 sets-past (x ∷ a) l i h = ap (λ (m : List ℕ). sets m (suc i) a) (set_out l i x h) ∙ sets-past a l (suc i) (omega arith)
 
--- one byte more
-pub sets-next : (s l : List ℕ) (i at : ℕ) → i < length s → sets (set l at (get_or s i 0)) (at + 1) (drop (i + 1) s) ≡ sets l at (drop i s)
-sets-next s l i at h =
-    let p : at + 1 ≡ suc at = omega arith in
-    let q : i + 1 ≡ suc i = omega arith in
-    ap₂ (λ (x y : ℕ). sets (set l at (get_or s i 0)) x (drop y s)) p q ∙ ap (sets l at) (sym (drop-cons s i 0 h))
+-- nor is what does not fit
+sets_cut : (a l : List ℕ) (i m : ℕ) → min (length a) (length l - i) ≤ m → sets l i (take m a) ≡ sets l i a
+sets_cut [] l i m h = ap (sets l i) (take-nil m)
+sets_cut (x ∷ a) l i zero h = sym (sets-past (x ∷ a) l i (omega arith))
+sets_cut (x ∷ a) l i (suc m) h = sets_cut a (set l i x) (suc i) m (omega (arith, length-set l i x))
+
+pub sets_fit : (a l : List ℕ) (i n m : ℕ) → n ≡ min i (length l) → m ≡ min (length a) (length l - n) → put_mid n m l (take m a) ≡ sets l i a
+sets_fit a l i n m p q = pick (le-or-lt (length l) i)
+  where
+    pick : (length l ≤ i) ⊎ (i < length l) → put_mid n m l (take m a) ≡ sets l i a
+    pick (inl h) = let z : m ≡ 0 = omega arith in rw z (take-append-drop n l ∙ sym (sets-past a l i h))
+    pick (inr h) =
+        let z : n ≡ i = omega arith in
+        let w : length (take m a) ≡ m = length-take-le m a (omega arith) in
+        rw z (put_sets l (take m a) i m (sym w) (omega arith) ∙ sets_cut a l i m (omega arith))
 
 -- a buffer that holds the bytes so far holds those added too
 holds_more : (added held buffer : List ℕ) (used : ℕ) → used ≡ min (length held) (length buffer) → take used buffer ≡ take (length buffer) held

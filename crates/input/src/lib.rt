@@ -1,13 +1,12 @@
 // An input read whole; and one taken in piece by piece: the pattern up to the first line feed, then the log.
 #![tactic(auto)]
 
-ghost use Rattle.std.specs.Prelude.{◌≡◌, ℕ, ◌<◌, min, length, take, IfOk, IfErr};
+ghost use Rattle.std.specs.Prelude.{◌≡◌, ℕ, ◌<◌, min, length, take, IfOk, IfErr, MatchOption, position, ◌==◌, ◌||◌, []};
+ghost use Rattle.std.specs.Option.{is_some};
 ghost use Rattle.std.specs.Io.{ReadsAtMost};
 ghost use Rattle.std.specs.Io.KnownBytes.{Consumes, IsAtEnd};
-ghost use Rattle.input.specs.Input.{pattern_of, Kept, TakenIn};
-ghost use Rattle.input.specs.inner.Parting.{Parts};
+ghost use Rattle.input.specs.Input.{pattern_part, log_part, feed_in, Kept, TakenIn};
 
-use basics::shorter;
 use std::io;
 use std::io::Read;
 
@@ -19,68 +18,35 @@ pub struct Intake {
     pub log: usize,
 }
 
-// Where a piece parts: the pattern's bytes are before `cut`, the log's from `next` on.
-#[derive(Clone, Copy)]
-struct Parting {
-    ended: bool,
-    cut: usize,
-    next: usize,
-}
-
-// How many bytes of a piece are before its first line feed; all where it has none.
-fn feed_at(piece: &[u8]) -> usize
-    ensures { result ≡ length (pattern_of piece.now) }
-{
-    let mut i = 0;
-    while i < piece.len() {
-        if piece[i] == 10 {
-            return i;
-        }
-        i += 1;
-    }
-    i
-}
-
 // Copies bytes into a buffer behind those used, as many as fit, and gives the number used then.
 fn keep(buffer: &mut [u8], used: usize, bytes: &[u8]) -> usize
     ensures { Kept buffer.old used bytes.now result buffer.new }
 {
-    let mut at = used;
-    let mut i = 0;
-    while i < bytes.len() {
-        if buffer.len() <= at {
-            return buffer.len();
-        }
-        buffer[at] = bytes[i];
-        at += 1;
-        i += 1;
-    }
-    shorter(at, buffer.len())
+    let from = used.min(buffer.len());
+    let fit = bytes.len().min(buffer.len() - from);
+    buffer[from..from + fit].copy_from_slice(&bytes[..fit]);
+    from + fit
 }
 
-// Parts a piece, given whether the line feed had come before it.
-fn split(piece: &[u8], ended: bool) -> Parting
-    ensures { Parts piece.now ended result }
+// The place of the first line feed.
+fn feed_at(piece: &[u8]) -> Option<usize>
+    ensures { result ≡ position (λ b. b == 10) piece.now }
+{
+    piece.iter().position(|b| *b == b'\n')
+}
+
+// The pattern's bytes of a piece and, once the line feed has come, the log's; given whether it had come before the piece.
+fn parts(piece: &[u8], ended: bool) -> (&[u8], Option<&[u8]>)
+    ensures front { result.0.now ≡ pattern_part ended piece.now }
+    ensures ended { is_some result.1 ≡ ended || feed_in piece.now }
+    ensures back { MatchOption result.1 (log_part ended piece.now ≡ []) (λ s. s.now ≡ log_part ended piece.now) }
 {
     if ended {
-        return Parting {
-            ended: true,
-            cut: 0,
-            next: 0,
-        };
+        return (&[], Some(piece));
     }
-    let cut = feed_at(piece);
-    if piece.len() <= cut {
-        return Parting {
-            ended: false,
-            cut,
-            next: cut,
-        };
-    }
-    Parting {
-        ended: true,
-        cut,
-        next: cut + 1,
+    match feed_at(piece) {
+        None => (piece, None),
+        Some(feed) => (&piece[..feed], Some(&piece[feed + 1..])),
     }
 }
 
@@ -88,13 +54,11 @@ fn split(piece: &[u8], ended: bool) -> Parting
 pub fn take_piece(piece: &[u8], t: Intake, pattern: &mut [u8], log: &mut [u8]) -> Intake
     ensures { TakenIn piece.now t pattern.old log.old result pattern.new log.new }
 {
-    let p = split(piece, t.ended);
-    let cut = p.cut;
-    let next = p.next;
-    let kept_pattern = keep(pattern, t.pattern, &piece[..cut]);
-    let kept_log = keep(log, t.log, &piece[next..]);
+    let (front, back) = parts(piece, t.ended);
+    let kept_pattern = keep(pattern, t.pattern, front);
+    let kept_log = keep(log, t.log, back.unwrap_or(&[]));
     Intake {
-        ended: p.ended,
+        ended: back.is_some(),
         pattern: kept_pattern,
         log: kept_log,
     }
@@ -110,11 +74,10 @@ pub fn read_whole<R: Read>(from: &mut R, buffer: &mut [u8]) -> io::Result<usize>
 {
     let mut used = 0;
     while used < buffer.len() {
-        let n = from.read(&mut buffer[used..])?;
-        if n == 0 {
-            return Ok(used);
+        match from.read(&mut buffer[used..])? {
+            0 => break,
+            n => used += n,
         }
-        used += n;
     }
     Ok(used)
 }

@@ -1,50 +1,39 @@
--- The different leaves of tables, in three columns of 64: kind, first number, second number. Assumes nothing.
-use Rattle.std.specs.Prelude.{ℕ, zero, suc, ◌+◌, Bool, cond, ◌&&◌, ◌||◌, List, get_or, set, replicate, leb, ltb, eqb}
-use Rattle.stretches.specs.Table.{kind_at, first_at, second_at, leaf_kind}
+-- The different leaves of tables, in the order in which they first come: kind, first number, second number; at most 64. Assumes nothing.
+use Rattle.std.specs.Prelude.{ℕ, zero, suc, Bool, cond, ◌&&◌, ◌||◌, List, [], ◌∷◌, ◌++◌, length, leb, ltb, eqb}
+use Rattle.std.specs.List.{position_or_len}
+use Rattle.stretches.specs.declared.Node.{Node}
+use Rattle.stretches.specs.Table.{node_at, leaf_kind}
+use Rattle.leaves.specs.declared.Leaf.{Leaf}
 
--- how many leaves are held, of so many: there is room for 64
-abbrev pub held : ℕ → ℕ
-held n = cond (ltb n 64) n 64
+-- the leaf that a node is
+abbrev pub leaf_of : Node → Leaf
+leaf_of n = record { kind = n.kind; first = n.first; second = n.second }
 
--- leaf r has these numbers
-abbrev pub is_leaf : List ℕ → ℕ → ℕ → ℕ → ℕ → Bool
-is_leaf leaves r k a b = eqb (get_or leaves r 0) k && (eqb (get_or leaves (64 + r) 0) a && eqb (get_or leaves (128 + r) 0) b)
+-- whether two leaves have the same numbers
+abbrev pub same_leaf : Leaf → Leaf → Bool
+same_leaf x y = eqb x.kind y.kind && (eqb x.first y.first && eqb x.second y.second)
 
--- the number of the first of the n leaves from leaf r on that has these numbers; r + n where none has
-unfoldable pub number_from : List ℕ → ℕ → ℕ → ℕ → ℕ → ℕ → ℕ
-number_from leaves r zero k a b = r
-number_from leaves r (suc n) k a b = cond (is_leaf leaves r k a b) r (number_from leaves (suc r) n k a b)
-
-abbrev pub number_in : List ℕ → ℕ → ℕ → ℕ → ℕ → ℕ
-number_in leaves n k a b = number_from leaves 0 n k a b
-
--- leaves, and how many they are
-pub record Gathered : Type 0 where
-  pub leaves : List ℕ
-  pub count : ℕ
-
-abbrev pub are : List ℕ → ℕ → Gathered
-are leaves n = record { leaves = leaves; count = n }
+-- the number of a leaf: of the first of these that is the same; as many as they are where none is
+abbrev pub number_in : List Leaf → Leaf → ℕ
+number_in ls x = position_or_len (λ y. same_leaf y x) ls
 
 -- a leaf more, if it is not among them and there is room
-abbrev pub added : List ℕ → ℕ → ℕ → ℕ → ℕ → Gathered
-added leaves n k a b =
-    cond (ltb (number_in leaves n k a b) n || leb 64 n) (are leaves n)
-    (are (set (set (set leaves n k) (64 + n) a) (128 + n) b) (n + 1))
+abbrev pub added : List Leaf → Leaf → List Leaf
+added ls x = cond (ltb (number_in ls x) (length ls) || leb 64 (length ls)) ls (ls ++ (x ∷ []))
 
--- with node v's leaf
-abbrev pub with_node : List ℕ → ℕ → Gathered → Gathered
-with_node rows v g = cond (leaf_kind (kind_at rows v)) (added g.leaves g.count (kind_at rows v) (first_at rows v) (second_at rows v)) g
+-- with a node's leaf, if it is one
+abbrev pub with_node : List Leaf → Node → List Leaf
+with_node ls n = cond (leaf_kind n.kind) (added ls (leaf_of n)) ls
 
 -- with those of the first m nodes, in the nodes' order
-unfoldable pub gathered_to : List ℕ → Gathered → ℕ → Gathered
-gathered_to rows g zero = g
-gathered_to rows g (suc m) = with_node rows m (gathered_to rows g m)
+unfoldable pub gathered_to : List Node → List Leaf → ℕ → List Leaf
+gathered_to rows ls zero = ls
+gathered_to rows ls (suc m) = with_node (gathered_to rows ls m) (node_at rows m)
 
--- the first known of these leaves, with those of the table
-abbrev pub gathered : List ℕ → List ℕ → ℕ → Gathered
-gathered rows leaves known = gathered_to rows (are leaves (held known)) 32
+-- these leaves, with those of the table
+abbrev pub gathered : List Node → List Leaf → List Leaf
+gathered rows ls = gathered_to rows ls 32
 
 -- the leaves of the table alone
-abbrev pub leaves_of : List ℕ → Gathered
-leaves_of rows = gathered rows (replicate 192 0) 0
+abbrev pub leaves_of : List Node → List Leaf
+leaves_of rows = gathered rows []

@@ -1,96 +1,103 @@
-// The different leaves of tables, numbered in the order in which they first come.
-//
-// rows: a table of nodes in five columns of 32, as `seek` has it; its leaves are of kind 16, `ev` with code and lane, and of kind 17, `fr` with frame and lane.
-// leaves: in three columns of 64, the kind and the two numbers of each leaf.
+// The different leaves of tables, numbered in the order in which they first come: `ev` with code and lane, and `fr` with frame and lane.
 #![tactic(auto)]
 
-ghost use Rattle.std.specs.Prelude.{◌≡◌, ◌≤◌, ◌<◌};
-ghost use Rattle.leaves.specs.Leaves.{held, is_leaf, number_in, are, added, with_node, gathered};
+ghost use Rattle.std.specs.Prelude.{◌≡◌, ◌≤◌, [], length};
+ghost use Rattle.std.specs.List.{position};
+ghost use Rattle.leaves.specs.Leaves.{leaf_of, same_leaf, added, gathered};
 
-use nodes::{FIRST, NODES, SECOND, TABLE, is_leaf};
+use nodes::{Node, Nodes, is_leaf};
+use std::marker::Model;
 
-// The leaves that there is room for; where the columns of their first and second numbers begin; and their cells.
+// The leaves that there is room for.
 pub const LEAVES: usize = 64;
 
-pub const FIRSTS: usize = 64;
-
-pub const SECONDS: usize = 128;
-
-pub const CELLS: usize = 192;
-
-// How many leaves are held, of so many: there is room for 64.
-fn held_of(n: usize) -> usize
-    ensures { (result ≡ held n) × (result ≤ 64) }
-{
-    if n < LEAVES { n } else { LEAVES }
+// A leaf: the kind and the two numbers of its node.
+#[derive(Clone, Copy, Debug, PartialEq, Eq)]
+pub struct Leaf {
+    pub kind: usize,
+    pub first: usize,
+    pub second: usize,
 }
 
-// Whether leaf r has these numbers.
-fn has_numbers(leaves: &[usize; CELLS], r: usize, kind: usize, first: usize, second: usize) -> bool
-    requires { r < 64 }
-    ensures { result ≡ is_leaf leaves.now r kind first second }
-{
-    if leaves[r] != kind {
-        return false;
-    }
-    if leaves[FIRSTS + r] != first {
-        return false;
-    }
-    leaves[SECONDS + r] == second
-}
-
-// The number of the first of n leaves that has these numbers; n where none has. More than 64 leaves are taken for 64.
-pub fn find(leaves: &[usize; CELLS], n: usize, kind: usize, first: usize, second: usize) -> usize
-    ensures { (result ≡ number_in leaves.now (held n) kind first second) × (result ≤ 64) }
-{
-    let m = held_of(n);
-    let mut r = 0;
-    while r < m {
-        if has_numbers(leaves, r, kind, first, second) {
-            return r;
+impl From<Node> for Leaf {
+    fn from(node: Node) -> Leaf
+        ensures { result ≡ leaf_of node }
+    {
+        Leaf {
+            kind: node.kind,
+            first: node.first,
+            second: node.second,
         }
-        r += 1;
     }
-    m
 }
 
-// Adds a leaf to n others if it is not among them and there is room: how many there are then.
-fn add(leaves: &mut [usize; CELLS], n: usize, kind: usize, first: usize, second: usize) -> usize
-    requires { n ≤ 64 }
-    ensures { (are leaves.new result ≡ added leaves.old n kind first second) × (result ≤ 64) }
-{
-    if find(leaves, n, kind, first, second) < n {
-        return n;
-    }
-    if LEAVES <= n {
-        return n;
-    }
-    leaves[n] = kind;
-    leaves[FIRSTS + n] = first;
-    leaves[SECONDS + n] = second;
-    n + 1
+// Different leaves.
+#[derive(Drop)]
+pub struct Leaves {
+    list: [Leaf; LEAVES],
+    count: usize,
 }
 
-// Adds node v's leaf, if it is one.
-fn add_node(rows: &[usize; TABLE], leaves: &mut [usize; CELLS], n: usize, v: usize) -> usize
-    requires { (n ≤ 64) × (v < 32) }
-    ensures { (are leaves.new result ≡ with_node rows.now v (are leaves.old n)) × (result ≤ 64) }
-{
-    if !is_leaf(rows[v]) {
-        return n;
-    }
-    add(leaves, n, rows[v], rows[FIRST + v], rows[SECOND + v])
+impl Model for Leaves {
+    ghost use Rattle.std.specs.Prelude.{List, ◌≤◌, take};
+    ghost use Rattle.leaves.specs.declared.Leaf.{Leaf};
+
+    ghost Value = { List Leaf };
+
+    ghost view = { λ s. take s.count s.list };
+
+    ghost invariant = { λ s. s.count ≤ 64 };
 }
 
-// Adds to the first `known` leaves those of the table's nodes that are not among them, in the nodes' order: how many there are then.
-pub fn gather(rows: &[usize; TABLE], leaves: &mut [usize; CELLS], known: usize) -> usize
-    ensures { are leaves.new result ≡ gathered rows.now leaves.old known }
-{
-    let mut n = held_of(known);
-    let mut v = 0;
-    while v < NODES {
-        n = add_node(rows, leaves, n, v);
-        v += 1;
+impl Leaves {
+    // None.
+    pub fn new() -> Leaves
+        ensures { result ≡ [] }
+    {
+        let none = Leaf {
+            kind: 0,
+            first: 0,
+            second: 0,
+        };
+        Leaves {
+            list: [none; LEAVES],
+            count: 0,
+        }
     }
-    n
+
+    // The leaves by their numbers.
+    pub fn as_slice(&self) -> &[Leaf]
+        ensures { (result.now ≡ self.now) × (length self.now ≤ 64) }
+    {
+        &self.list[..self.count]
+    }
+
+    // The number of the leaf; none where it is not among them.
+    pub fn find(&self, leaf: Leaf) -> Option<usize>
+        ensures { result ≡ position (λ x. same_leaf x leaf) self.now }
+    {
+        self.as_slice().iter().position(|x| *x == leaf)
+    }
+
+    // Adds the leaf if it is not among them and there is room.
+    fn add(&mut self, leaf: Leaf)
+        ensures { self.new ≡ added self.old leaf }
+    {
+        if self.find(leaf).is_none() && self.count < LEAVES {
+            self.list[self.count] = leaf;
+            self.count += 1;
+        }
+    }
+
+    // Adds those of the table's nodes that are not among them, in the nodes' order.
+    #[tactic(auto, unfolding(crate::specs::Leaves::gathered_to))]
+    pub fn gather(&mut self, rows: &Nodes)
+        ensures { self.new ≡ gathered rows.now self.old }
+    {
+        for node in rows {
+            if is_leaf(node.kind) {
+                self.add(Leaf::from(*node));
+            }
+        }
+    }
 }

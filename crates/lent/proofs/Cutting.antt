@@ -1,33 +1,21 @@
--- The cut of lent lists: what the reader of the end places finds at each, and what a right cut says of the places.
--- Each law opens the list of end places at one place. Assumes nothing.
-use Prim.Native.Nat.{ℕ, zero, suc, ◌+◌, ◌%◌, ◌≤◌, ◌<◌}
-use mathlib.Core.Path.{◌≡◌, sym, ap, ap₂, ◌∙◌}
-use mathlib.Core.Bool.{true, false, not, ◌||◌}
+-- The cut of lent lists: what a right cut says of the places, and where a list and its stretches stand.
+-- Assumes nothing.
+use Prim.Native.Nat.{ℕ, zero, suc, ◌+◌, ◌-◌, ◌*◌, ◌/◌, ◌%◌, ◌≤◌, ◌<◌}
+use mathlib.Core.Path.{◌≡◌, refl, sym, ap, ap₂, ◌∙◌}
+use mathlib.Core.Bool.{false, not, ◌||◌}
 use mathlib.Core.List.{List, [], ◌∷◌}
 use native.Mathlib.Omega.{arith}
-use lib.ListN.{length, get_or, drop, drop_of_length-le}
+use lib.ListN.{length, get_or, take, drop, length-drop}
+use lib.Seq.{drop-nil, length-take-le}
 use lib.Dec.{ltb, eqb}
-use borrow.Author.Tests.{eq-eqb, ne_eqb, lt-ltb, le-ltb, eqb-true, ltb-false, not-false}
-use Rattle.basics.proofs.Basics.{or_left, or_right, or-false, open_at}
+use borrow.Author.Tests.{eqb-true, ltb-false, not-false}
+use Rattle.basics.proofs.Basics.{or-false}
+use Rattle.stretches.specs.Stretch.{st}
+use Rattle.stretches.specs.Front.{None, Some, head_of, nth}
+use Rattle.stretches.specs.Taking.{total}
+use Rattle.stretches.specs.Lent.{pairs, lists_from, lists_of}
+use Rattle.stretches.specs.inner.Starts.{start_of}
 use Rattle.meaning.specs.Refusals.{miscut_from, miscut}
-
--- ── The cut ──
-
-module _ (ends : List ℕ) (at i len e : ℕ) (here : i < length ends) (is : e ≡ get_or ends i 0) where
-  opened : miscut_from at (drop i ends) len ≡ not (eqb (e % 2) 0) || (ltb e at || miscut_from e (drop (i + 1) ends) len)
-  opened = ap (λ l. miscut_from at l len) (open_at ends i here) ∙ ap (λ x. miscut_from at (x ∷ drop (i + 1) ends) len) (sym is)
-
-  pub cut-odd : (e % 2 ≡ 0 → ⊥) → miscut_from at (drop i ends) len ≡ true
-  cut-odd h = opened ∙ or_left _ _ (ap not (ne_eqb (e % 2) 0 h))
-
-  pub cut-back : e < at → miscut_from at (drop i ends) len ≡ true
-  cut-back h = opened ∙ or_right (not (eqb (e % 2) 0)) _ (or_left _ _ (lt-ltb e at h))
-
-  pub cut_on : e % 2 ≡ 0 → at ≤ e → miscut_from at (drop i ends) len ≡ miscut_from e (drop (i + 1) ends) len
-  cut_on v h = opened ∙ ap₂ (λ p q. not p || (q || miscut_from e (drop (i + 1) ends) len)) (eq-eqb (e % 2) 0 v) (le-ltb e at h)
-
-pub cut-over : (ends : List ℕ) (at i len : ℕ) → length ends ≤ i → miscut_from at (drop i ends) len ≡ not (eqb at len)
-cut-over ends at i len h = ap (λ l. miscut_from at l len) (drop_of_length-le ends h)
 
 -- a right cut: each end place even, not below the one before, and inside the run
 pub right_end : (i : ℕ) (ends : List ℕ) (len : ℕ) → miscut_from i ends len ≡ false → i ≤ len
@@ -49,9 +37,6 @@ right-first at e rest len h =
     let q = or-false (ltb e at) (miscut_from e rest len) p.1 in
     record { even = eqb-true (e % 2) 0 (not-false (eqb (e % 2) 0) p.0); up = ltb-false e at q.0; inside = right_end e rest len q.1; rest = q.1 }
 
-pub right-at : (ends : List ℕ) (at j len e : ℕ) → j < length ends → e ≡ get_or ends j 0 → miscut_from at (drop j ends) len ≡ false → RightAt at e (drop (j + 1) ends) len
-right-at ends at j len e h is f = right-first at e (drop (j + 1) ends) len (sym (opened ends at j len e h is) ∙ f)
-
 -- every end place of a right cut lies inside the items
 inside-from : (at : ℕ) (ends : List ℕ) (len : ℕ) → miscut_from at ends len ≡ false → (i : ℕ) → get_or ends i 0 ≤ len
 inside-from at [] len h i = omega arith
@@ -60,3 +45,48 @@ inside-from at (e ∷ ends) len h (suc i) = inside-from e ends len (right-first 
 
 pub ends-inside : (items ends : List ℕ) → miscut items ends ≡ false → (i : ℕ) → get_or ends i 0 ≤ length items
 ends-inside items ends h i = inside-from 0 ends (length items) h i
+
+-- a list ends where it starts or behind
+start-below : (at : ℕ) (ends : List ℕ) (len : ℕ) → miscut_from at ends len ≡ false → (i : ℕ) → i < length ends → get_or (at ∷ ends) i 0 ≤ get_or ends i 0
+start-below at [] len h i lt = absurd (omega arith)
+start-below at (e ∷ ends) len h zero lt = (right-first at e ends len h).up
+start-below at (e ∷ ends) len h (suc i) lt = start-below e ends len (right-first at e ends len h).rest i (omega arith)
+
+pub start-up : (items ends : List ℕ) → miscut items ends ≡ false → (i : ℕ) → i < length ends → start_of ends i ≤ get_or ends i 0
+start-up items ends h zero lt = omega arith
+start-up items ends h (suc i) lt = start-below 0 ends (length items) h (suc i) lt
+
+-- ── The stretches of a list ──
+
+pairs-length : (l : List ℕ) → length l % 2 ≡ 0 → 2 * length (pairs l) ≡ length l
+pairs-length [] e = refl
+pairs-length (s ∷ []) e = absurd (omega arith)
+pairs-length (s ∷ (e ∷ r)) h = omega (arith, pairs-length r (omega arith))
+
+total-from : (at : ℕ) (items ends : List ℕ) → at % 2 ≡ 0 → miscut_from at ends (length items) ≡ false → 2 * total (lists_from at items ends) + at ≡ length items
+total-from at items [] v h = omega (arith, eqb-true at (length items) (not-false (eqb at (length items)) h))
+total-from at items (e ∷ ends) v h =
+    let r = right-first at e ends (length items) h in
+    let n : length (take (e - at) (drop at items)) ≡ e - at = length-take-le (e - at) (drop at items) (omega (arith, length-drop at items, r.inside)) in
+    let p = pairs-length (take (e - at) (drop at items)) (omega (arith, n, r.even, r.up)) in
+    omega (arith, total-from e items ends r.even r.rest, n, p, r.up)
+
+-- half the number of items
+pub half : (items ends : List ℕ) → miscut items ends ≡ false → length items / 2 ≡ total (lists_of items ends)
+half items ends h = omega (arith, total-from 0 items ends refl h)
+
+-- number m stands from place 2m on
+pub nth-past : (l : List ℕ) (m : ℕ) → length l ≤ 2 * m + 1 → None ≡ nth (pairs l) m
+nth-past [] m h = ap head_of (sym (drop-nil m))
+nth-past (s ∷ []) m h = ap head_of (sym (drop-nil m))
+nth-past (s ∷ (e ∷ l)) zero h = absurd (omega arith)
+nth-past (s ∷ (e ∷ l)) (suc m) h = nth-past l m (omega arith)
+
+pub nth-here : (l : List ℕ) (m : ℕ) → 2 * m + 1 < length l → Some (st (get_or l (2 * m) 0) (get_or l (2 * m + 1) 0)) ≡ nth (pairs l) m
+nth-here [] m h = absurd (omega arith)
+nth-here (s ∷ []) m h = absurd (omega arith)
+nth-here (s ∷ (e ∷ l)) zero h = refl
+nth-here (s ∷ (e ∷ l)) (suc m) h =
+    let z : 2 * suc m ≡ suc (suc (2 * m)) = omega arith in
+    let y : 2 * suc m + 1 ≡ suc (suc (2 * m + 1)) = omega arith in
+    ap₂ (λ (j k : ℕ). Some (st (get_or (s ∷ (e ∷ l)) j 0) (get_or (s ∷ (e ∷ l)) k 0))) z y ∙ nth-here l m (omega arith)

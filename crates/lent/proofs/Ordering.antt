@@ -1,21 +1,21 @@
 -- The order of lent lists: what the reader of a list finds at each stretch, and that lists which are not refused rise, are sound and end below 65,536.
 -- A list is read with the least start and end that its next stretch may have, one past those before. Assumes nothing.
-use Prim.Native.Nat.{ℕ, suc, ◌+◌, ◌≤◌, ◌<◌}
+use Prim.Native.Nat.{ℕ, suc, ◌≤◌, ◌<◌}
 use mathlib.Core.Path.{◌≡◌, refl, sym, ap, ap₂, ◌∙◌}
 use mathlib.Core.Logic.{◌⊎◌, inl, inr}
 use mathlib.Core.Bool.{Bool, true, false, ◌||◌}
 use mathlib.Core.List.{List, [], ◌∷◌}
 use native.Mathlib.Omega.{arith}
-use lib.ListN.{length, get_or, drop, drop_of_length-le}
+use lib.ListN.{length, get_or}
 use lib.Dec.{ltb, leb, leb-suc-suc}
 use borrow.Author.Tests.{lt-ltb, le-ltb, ltb-false}
-use Rattle.stretches.specs.Stretch.{Stretch, st, In, Sound, Fine}
-use Rattle.stretches.specs.Lent.{lists_from, part}
+use Rattle.stretches.specs.declared.Stretch.{Stretch}
+use Rattle.stretches.specs.Stretch.{st, In, Sound, Fine}
+use Rattle.stretches.specs.Lent.{pairs}
 use Rattle.stretches.proofs.InRun.{Below}
-use Rattle.basics.proofs.Basics.{or_left, or_right, or-false, open_at}
+use Rattle.basics.proofs.Basics.{or_left, or_right, or-false}
 use Rattle.stretches.proofs.Fine.{AllFine, fine-none, all_none, all_more}
 use Rattle.meaning.specs.Refusals.{spoiled, disordered_after, disordered_list, disordered}
-use Rattle.stretches.proofs.Lent.{part-cons, part-nil}
 
 -- ── One list ──
 
@@ -39,46 +39,21 @@ list-unrisen (x ∷ l) =
     (after-unrisen x l
     ∙ ap₂ (λ p q. (p || q) || unrisen (suc x.start) (suc x.end) l) (sym (le-ltb x.start 0 (omega arith))) (sym (le-ltb x.end 0 (omega arith))))
 
--- what is wrong with [s..e]
+-- what is wrong with [s..e], tested in this order
 abbrev pub Wrong : ℕ → ℕ → ℕ → ℕ → Type 0
-Wrong a b s e = (e < s) ⊎ ((65535 < e) ⊎ ((s < a) ⊎ (e < b)))
+Wrong a b s e = (e < s) ⊎ (((s ≤ e) × (65535 < e)) ⊎ (((s ≤ e) × (e ≤ 65535) × (s < a)) ⊎ ((s ≤ e) × (e ≤ 65535) × (a ≤ s) × (e < b))))
 
-module _ (items : List ℕ) (i hi a b s e : ℕ) (lt : i + 1 < hi) (le : hi ≤ length items) (is-s : s ≡ get_or items i 0) (is-e : e ≡ get_or items (i + 1) 0) where
-  opened : unrisen a b (part items i hi) ≡ unrisen a b (st s e ∷ part items (i + 2) hi)
-  opened = ap (unrisen a b) (part-cons items i hi lt le ∙ ap₂ (λ x y. st x y ∷ part items (i + 2) hi) (sym is-s) (sym is-e))
-
-  pub list-wrong : Wrong a b s e → unrisen a b (part items i hi) ≡ true
-  list-wrong w = opened ∙ go w
-    where
-      go : Wrong a b s e → unrisen a b (st s e ∷ part items (i + 2) hi) ≡ true
-      go (inl h) = or_left _ _ (or_left _ _ (lt-ltb e s h))
-      go (inr (inl h)) = or_left _ _ (or_right (ltb e s) _ (or_right (ltb 65535 s) _ (lt-ltb 65535 e h)))
-      go (inr (inr (inl h))) = or_right (spoiled (st s e)) _ (or_left _ _ (or_left _ _ (lt-ltb s a h)))
-      go (inr (inr (inr h))) = or_right (spoiled (st s e)) _ (or_left _ _ (or_right (ltb s a) _ (lt-ltb e b h)))
-
-  pub list_on : s ≤ e → e ≤ 65535 → a ≤ s → b ≤ e → unrisen a b (part items i hi) ≡ unrisen (s + 1) (e + 1) (part items (i + 2) hi)
-  list_on u v w x =
-      opened
-      ∙ simp (le-ltb e s u, le-ltb 65535 s (omega arith), le-ltb 65535 e v, le-ltb s a w, le-ltb e b x)
-      (let p : suc s ≡ s + 1 = omega arith in let q : suc e ≡ e + 1 = omega arith in ap₂ (λ c d. unrisen c d (part items (i + 2) hi)) p q)
-
-pub list_over_lem : (items : List ℕ) (i hi a b : ℕ) → hi ≤ i + 1 → unrisen a b (part items i hi) ≡ false
-list_over_lem items i hi a b h = ap (unrisen a b) (part-nil items i hi h)
-
--- ── All lists ──
-
-module _ (items ends : List ℕ) (lo j hi : ℕ) (here : j < length ends) (is : hi ≡ get_or ends j 0) where
-  opened-lists : disordered (lists_from lo items (drop j ends)) ≡ disordered_list (part items lo hi) || disordered (lists_from hi items (drop (j + 1) ends))
-  opened-lists = ap (λ l. disordered (lists_from lo items l)) (open_at ends j here ∙ ap (λ x. x ∷ drop (j + 1) ends) (sym is))
-
-  pub lists-wrong : disordered_list (part items lo hi) ≡ true → disordered (lists_from lo items (drop j ends)) ≡ true
-  lists-wrong h = opened-lists ∙ or_left _ _ h
-
-  pub lists-on : disordered_list (part items lo hi) ≡ false → disordered (lists_from lo items (drop j ends)) ≡ disordered (lists_from hi items (drop (j + 1) ends))
-  lists-on h = opened-lists ∙ ap (λ p. p || disordered (lists_from hi items (drop (j + 1) ends))) h
-
-pub lists-over : (items ends : List ℕ) (lo j : ℕ) → length ends ≤ j → disordered (lists_from lo items (drop j ends)) ≡ false
-lists-over items ends lo j h = ap (λ l. disordered (lists_from lo items l)) (drop_of_length-le ends h)
+-- found in the first stretch of a list
+pub list-wrong : (l : List ℕ) (a b s e : ℕ) → 2 ≤ length l → s ≡ get_or l 0 0 → e ≡ get_or l 1 0 → Wrong a b s e → true ≡ unrisen a b (pairs l)
+list-wrong [] a b s e h p q w = absurd (omega arith)
+list-wrong (x ∷ []) a b s e h p q w = absurd (omega arith)
+list-wrong (x ∷ (y ∷ l)) a b s e h p q w = sym (ap₂ (λ x y. unrisen a b (st x y ∷ pairs l)) (sym p) (sym q) ∙ go w)
+  where
+    go : Wrong a b s e → unrisen a b (st s e ∷ pairs l) ≡ true
+    go (inl h) = or_left _ _ (or_left _ _ (lt-ltb e s h))
+    go (inr (inl h)) = or_left _ _ (or_right (ltb e s) _ (or_right (ltb 65535 s) _ (lt-ltb 65535 e h.1)))
+    go (inr (inr (inl h))) = or_right (spoiled (st s e)) _ (or_left _ _ (or_left _ _ (lt-ltb s a h.2)))
+    go (inr (inr (inr h))) = or_right (spoiled (st s e)) _ (or_left _ _ (or_right (ltb s a) _ (lt-ltb e b h.3)))
 
 -- ── What is not disordered is fine ──
 

@@ -8,7 +8,8 @@ use native.Mathlib.Omega.{arith}
 use lib.ListN.{length, get_or}
 use lib.Dec.{leb, eqb}
 use borrow.Author.Tests.{eq-eqb, ne_eqb, eqb-true, leb-true, not-false}
-use Rattle.stretches.specs.Stretch.{Stretch}
+use Rattle.stretches.specs.declared.Node.{Node}
+use Rattle.stretches.specs.declared.Stretch.{Stretch}
 use Rattle.stretches.specs.Filling.{filled}
 use Rattle.stretches.specs.Lent.{lists_of}
 use Rattle.basics.proofs.Basics.{cases, and-true, or-false}
@@ -71,7 +72,7 @@ module _ (op k : ℕ) (items ends cells : List ℕ) (f n : ℕ) (is : n ≡ list
           inside = ends-inside items ends a.cut;
         }
 
-    module _ (rows cells' : List ℕ) (w : Walked) (l : Laid op k (length ends) ends (length ends) rows) (h : FillAll (source [] items []) rows 0 f cells w cells') where
+    module _ (rows : List Node) (cells' : List ℕ) (w : Walked) (l : Laid op k (length ends) ends (length ends) rows) (h : FillAll (source [] items []) rows 0 f cells w cells') where
       done : Filling (list_answers op k items ends) f cells w cells'
       done =
           let g = fills in

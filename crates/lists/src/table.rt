@@ -3,34 +3,31 @@ ghost use Rattle.std.specs.Prelude.{◌≤◌, length};
 ghost use Rattle.lists.specs.inner.Table.{Laid};
 
 use basics::wide;
-use nodes::{FIRST, LIST, SIZE, TABLE};
-
-// Where the columns of sizes, first and second numbers go on behind node 0.
-const SIZES: usize = 33;
-
-const FROMS: usize = 65;
-
-const TOS: usize = 97;
+use nodes::{LIST, NO_NODE, NODES, Node, Nodes};
 
 // The operator at node 0, and list i, by its places in the items, at node i + 1.
-pub(crate) fn table(op: usize, k: usize, ends: &[u32]) -> [usize; TABLE]
+pub(crate) fn table(op: usize, k: usize, ends: &[u32]) -> Nodes
     requires { length ends.now ≤ 31 }
     ensures { Laid op k (length ends.now) ends.now (length ends.now) result }
 {
-    let mut rows = [0usize; TABLE];
-    rows[0] = op;
-    rows[SIZE] = ends.len() + 1;
-    rows[FIRST] = k;
-    let mut from: usize = 0;
-    let mut i: usize = 0;
-    while i < ends.len() {
-        let to = wide(ends[i]);
-        rows[1 + i] = LIST;
-        rows[SIZES + i] = 1;
-        rows[FROMS + i] = from;
-        rows[TOS + i] = to;
+    let mut rows = [NO_NODE; NODES];
+    rows[0] = Node {
+        kind: op,
+        size: ends.len() + 1,
+        first: k,
+        ..NO_NODE
+    };
+    let mut from = 0;
+    for (i, end) in ends.iter().enumerate() {
+        let to = wide(*end);
+        rows[i + 1] = Node {
+            kind: LIST,
+            size: 1,
+            first: from,
+            second: to,
+            ..NO_NODE
+        };
         from = to;
-        i += 1;
     }
     rows
 }

@@ -155,19 +155,16 @@ fn make(
     }
     let lent = &mut cells[from..to];
     if h.taking == 0 {
-        let r = lists::fill(h.op, h.k, items, ends, lent, h.number);
-        line(rt, b'F', r.number, r.place, r.count, flag(r.more), lent)
+        match lists::fill(h.op, h.k, items, ends, lent, h.number) {
+            Ok(r) => line(rt, b'F', 0, 0, r.count, flag(r.more), lent),
+            Err(e) => line(rt, b'F', e.number(), e.place(), 0, 0, lent),
+        }
     } else {
-        let r = taking::take(h.op, items, ends, lent, h.number);
-        line(
-            rt,
-            b'T',
-            r.number,
-            flag(r.found),
-            wide(r.start),
-            wide(r.end),
-            lent,
-        )
+        match taking::take(h.op, items, ends, lent, h.number) {
+            Ok(Some(x)) => line(rt, b'T', 0, 1, wide(x.start), wide(x.end), lent),
+            Ok(None) => line(rt, b'T', 0, 0, 0, 0, lent),
+            Err(e) => line(rt, b'T', e.number(), 0, 0, 0, lent),
+        }
     }
 }
 

@@ -12,14 +12,14 @@ use lib.Pow.{shr_lt, shr-shr}
 use lib.Count.{count_trailing_zeros, under}
 use borrow.Author.Tests.{le-leb, lt-leb, eqb-true, eqb-false}
 use Rattle.stretches.specs.Stretch.{st, marks}
-use Rattle.stretches.specs.Front.{At, first_from, head_of}
+use Rattle.stretches.specs.Front.{Some, first_from, head_of}
 use Rattle.basics.proofs.Basics.{cases}
 use Rattle.marks.specs.Row.{bits}
 
 -- the first from a line on that no line of the list is before
 first-all : (q p : ℕ) (bs : List Bool) → q ≤ p → first_from (marks p bs) q ≡ head_of (marks p bs)
 first-all q p [] h = refl
-first-all q p (true ∷ bs) h = ap (λ b. cond b (At (st p p)) (first_from (marks (suc p) bs) q)) (le-leb q p h)
+first-all q p (true ∷ bs) h = ap (λ b. cond b (Some (st p p)) (first_from (marks (suc p) bs) q)) (le-leb q p h)
 first-all q p (false ∷ bs) h = first-all q (suc p) bs (omega arith)
 
 -- the first from a line on is the first of the lines without those before it
@@ -27,7 +27,7 @@ pub first-from : (p t q : ℕ) (bs : List Bool) → q ≡ p + t → first_from (
 first-from p zero q bs h = let z : p ≡ q = omega arith in first-all q p bs (omega arith) ∙ ap (λ (x : ℕ). head_of (marks x bs)) z
 first-from p (suc t) q [] h = refl
 first-from p (suc t) q (true ∷ bs) h =
-    ap (λ b. cond b (At (st p p)) (first_from (marks (suc p) bs) q)) (lt-leb q p (omega arith)) ∙ first-from (suc p) t q bs (omega arith)
+    ap (λ b. cond b (Some (st p p)) (first_from (marks (suc p) bs) q)) (lt-leb q p (omega arith)) ∙ first-from (suc p) t q bs (omega arith)
 first-from p (suc t) q (false ∷ bs) h = first-from (suc p) t q bs (omega arith)
 
 -- ── The marked lines of a number's bits, taken lowest first ──

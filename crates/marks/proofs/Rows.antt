@@ -10,7 +10,7 @@ use lib.Seq.{get_or-take, get_or-drop, take-suc, ext_get_or}
 use lib.Dec.{leb, ltb}
 use borrow.Author.Tests.{leb-true, ltb-true, ltb-false, le-leb, lt-leb, lt-ltb, le-ltb}
 use Rattle.basics.proofs.Basics.{cases, and-true, true-and}
-use Rattle.marks.specs.Row.{bits, flags, lies, row}
+use Rattle.marks.specs.Row.{bits, flags, lies, row, RowIs}
 use Rattle.marks.proofs.Flags.{length-flags, flags-append}
 
 -- ── Where a row lies ──
@@ -22,17 +22,6 @@ lies-true len at width h =
 
 pub true-lies : (len at width : ℕ) → at + width ≤ len → 64 * width < 2 ^ 64 → lies len at width ≡ true
 true-lies len at width h k = true-and (leb (at + width) len) (ltb (64 * width) (2 ^ 64)) (le-leb (at + width) len h) (lt-ltb (64 * width) (2 ^ 64) k)
-
--- the test of `inside`, of a row that ends past the words, and of another
-pub ends-past : (len at width : ℕ) → len < at + width → false ≡ lies len at width
-ends-past len at width h = sym (ap (λ b. b && ltb (64 * width) (2 ^ 64)) (lt-leb (at + width) len h))
-
-pub numbered : (len at width : ℕ) → at + width ≤ len → ltb width 0x400_0000_0000_0000 ≡ lies len at width
-numbered len at width h =
-    cases (ltb width 0x400_0000_0000_0000) (λ b. b ≡ ltb (64 * width) (2 ^ 64))
-    (λ k. let z = ltb-true width 0x400_0000_0000_0000 k in sym (lt-ltb (64 * width) (2 ^ 64) (omega arith)))
-    (λ k. let z = ltb-false width 0x400_0000_0000_0000 k in sym (le-ltb (64 * width) (2 ^ 64) (omega arith)))
-    ∙ sym (ap (λ b. b && ltb (64 * width) (2 ^ 64)) (le-leb (at + width) len h))
 
 -- what is known of a row that has passed it
 pub record Within (words : List ℕ) (at width : ℕ) : Type 0 where
@@ -69,6 +58,15 @@ words-of-row words at width h = omega (arith, length-take width (drop at words),
 -- and stand from place at on
 pub word-of-row : (words : List ℕ) (at width k : ℕ) → k < width → get_or (take width (drop at words)) k 0 ≡ get_or words (at + k) 0
 word-of-row words at width k l = get_or-take width (drop at words) k 0 l ∙ get_or-drop at words k 0
+
+-- one whose words are these
+pub row-flags : (words : List ℕ) (at width : ℕ) (ws : List ℕ) → RowIs words at width ws → row words at width ≡ flags ws
+row-flags words at width ws h = row_words words at width h.inside ∙ ap flags (sym h.are)
+
+pub row-wide : (words : List ℕ) (at width : ℕ) (ws : List ℕ) → RowIs words at width ws → (length ws ≡ width) × (64 * width < 2 ^ 64)
+row-wide words at width ws h =
+    let k = lies-true (length words) at width h.inside in
+    (ap length h.are ∙ words-of-row words at width k.0, k.1)
 
 -- a row has 64 lines a word
 pub row-length : (words : List ℕ) (at width : ℕ) → lies (length words) at width ≡ true → length (row words at width) ≡ 64 * width

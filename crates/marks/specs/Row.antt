@@ -1,5 +1,5 @@
 -- Rows of marks in words of 64 bits: line p of a row is bit p mod 64, the lowest being bit 0, of the row's word p div 64. Assumes nothing.
-use Rattle.std.specs.Prelude.{ℕ, zero, suc, ◌+◌, ◌-◌, ◌*◌, ◌/◌, ◌%◌, ◌^◌, Bool, cond, ◌&&◌, ◌||◌, List, [], ◌∷◌, ◌++◌, length, get_or, take, drop, set, leb, ltb, eqb}
+use Rattle.std.specs.Prelude.{◌≡◌, ℕ, zero, suc, ◌+◌, ◌-◌, ◌*◌, ◌/◌, ◌%◌, ◌^◌, Bool, true, cond, ◌&&◌, ◌||◌, List, [], ◌∷◌, ◌++◌, length, get_or, take, drop, set, leb, ltb, eqb}
 use Rattle.stretches.specs.Stretch.{either}
 
 -- the d lowest bits of a number, the lowest first
@@ -28,6 +28,11 @@ fit n w len = leb w 1024 && leb (n * w) len
 -- the row of width words from place at on: its lines, each marked or not; a row that does not lie inside the words has no line
 unfoldable pub row : List ℕ → ℕ → ℕ → List Bool
 row words at width = cond (lies (length words) at width) (flags (take width (drop at words))) []
+
+-- the row lies inside the words, and these are its own
+pub record RowIs (words : List ℕ) (at width : ℕ) (ws : List ℕ) : Type 0 where
+  pub inside : lies (length words) at width ≡ true
+  pub are : ws ≡ take width (drop at words)
 
 -- a word with its bit k made b
 abbrev pub with_bit : Bool → ℕ → ℕ → ℕ

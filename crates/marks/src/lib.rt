@@ -2,20 +2,25 @@
 // its word p div 64. A row that does not lie inside the words, or has 2^64 lines or more, has no line.
 #![tactic(auto)]
 
-ghost use Rattle.std.specs.Prelude.{◌≡◌, true, false};
-ghost use Rattle.marks.specs.Row.{lies, fit, changed};
+ghost use Rattle.std.specs.Prelude.{◌≡◌, false, length, MatchOption};
+ghost use Rattle.marks.specs.Row.{lies, fit, changed, RowIs};
 
 // Whether a row lies inside so many words, and a usize holds the number of its lines.
 pub fn inside(len: usize, at: usize, width: usize) -> bool
     ensures { result ≡ lies len at width }
 {
-    if len < at {
-        return false;
+    at <= len && width <= len - at && width < 0x400_0000_0000_0000
+}
+
+// The words of the row; none where it does not lie inside.
+pub fn row(words: &[u64], at: usize, width: usize) -> Option<&[u64]>
+    ensures { MatchOption result (lies (length words.now) at width ≡ false) (λ r. RowIs words.now at width r.now) }
+{
+    if inside(words.len(), at, width) {
+        Some(&words[at..at + width])
+    } else {
+        None
     }
-    if len - at < width {
-        return false;
-    }
-    width < 0x400_0000_0000_0000
 }
 
 // The words that a row of a log's lines may have.
@@ -25,43 +30,17 @@ pub const WIDEST: usize = 1024;
 pub fn fit(n: usize, width: usize, len: usize) -> bool
     ensures { result ≡ fit n width len }
 {
-    if WIDEST < width {
-        return false;
-    }
-    if width == 0 {
-        return true;
-    }
-    n <= len / width
+    width <= WIDEST && (width == 0 || n <= len / width)
 }
 
-// Marks line p of the row; every other bit stays. Where the row has no line p, all stay.
-pub fn set(words: &mut [u64], at: usize, width: usize, p: usize)
-    ensures { words.new ≡ changed true words.old at width p }
+// Marks line p of the row, or takes its mark away; every other bit stays. Where the row has no line p, all stay.
+#[inline]
+pub fn put(words: &mut [u64], at: usize, width: usize, p: usize, marked: bool)
+    ensures { words.new ≡ changed marked words.old at width p }
 {
-    if !inside(words.len(), at, width) {
-        return;
+    if inside(words.len(), at, width) && p / 64 < width {
+        let bit = 1u64 << (p % 64);
+        let word = &mut words[at + p / 64];
+        *word = if marked { *word | bit } else { *word & !bit };
     }
-    let k = p / 64;
-    if width <= k {
-        return;
-    }
-    let i = at + k;
-    let bit = 1u64 << (p % 64);
-    words[i] = words[i] | bit;
-}
-
-// Takes the mark of line p of the row away; every other bit stays. Where the row has no line p, all stay.
-pub fn unset(words: &mut [u64], at: usize, width: usize, p: usize)
-    ensures { words.new ≡ changed false words.old at width p }
-{
-    if !inside(words.len(), at, width) {
-        return;
-    }
-    let k = p / 64;
-    if width <= k {
-        return;
-    }
-    let i = at + k;
-    let bit = 1u64 << (p % 64);
-    words[i] = words[i] & !bit;
 }

@@ -11,35 +11,34 @@ use Rattle.basics.proofs.Basics.{le-or-lt}
 use Rattle.stretches.specs.Filling.{pairs_in, written}
 use Rattle.stretches.specs.Lent.{lists_of}
 use Rattle.lines.proofs.LinesLaws.{cut-few}
-use Rattle.pattern.specs.Answer.{no_table, Says, number_of, place_of}
+use Rattle.pattern.specs.Answer.{Says, number_of, place_of}
 use Rattle.pattern.specs.Reading.{Outcome, Accepts, Refuses, outcome_of}
-use Rattle.pattern.specs.declared.Verdict.{Verdict}
-use Rattle.pattern.specs.declared.Verdict.TheVariants.{Accepted, Long, Misspelt, Crowded, Deep}
-use Rattle.pattern.specs.declared.Table.{Table}
+use Rattle.std.specs.Prelude.{Err}
+use Rattle.pattern.specs.declared.Refusal as pattern
+use Rattle.pattern.specs.declared.Refusal.TheVariants.{Long, Misspelt, Crowded, Deep}
 use Rattle.pattern.proofs.Outcomes.{refuses-says}
-use Rattle.meaning.specs.Refusals.{Refusal, refused, miscut, disordered, bad_count, of_pattern, refusal, pick_refusal, lowest}
+use Rattle.meaning.specs.Refusals.{Signal, refused, miscut, disordered, bad_count, of_pattern, refusal, pick_refusal, lowest}
 use Rattle.meaning.specs.Finding.{list_of}
 use Rattle.meaning.proofs.Finding.{long-log, short-log, refused-list, list-few, pick-as, pick-count}
 
 -- ── Over a pattern and a log ──
 
 -- a refusal of at most this number and place
-pub record Small (r : Refusal) : Type 0 where
+pub record Small (r : Signal) : Type 0 where
   pub number : r.number ≤ 5
   pub place : r.place ≤ 1024
 
-says-small : (s : List ℕ) (v : Verdict) (t : Table) → Says s v t → (number_of v ≤ 5) × (place_of v ≤ 1024)
-says-small s Accepted t h = (omega arith, omega arith)
-says-small s Long t h = (omega arith, omega arith)
-says-small s (Misspelt n) t h = (omega arith, omega (arith, h.short, h.place.within))
-says-small s Crowded t h = (omega arith, omega arith)
-says-small s Deep t h = (omega arith, omega arith)
+says-small : (s : List ℕ) (v : pattern.Refusal) → Says s (Err v) → (number_of v ≤ 5) × (place_of v ≤ 1024)
+says-small s Long h = (omega arith, omega arith)
+says-small s (Misspelt n) h = (omega arith, omega (arith, h.short, h.place.within))
+says-small s Crowded h = (omega arith, omega arith)
+says-small s Deep h = (omega arith, omega arith)
 
 pattern-small : (pattern : List ℕ) (o : Outcome) → outcome_of pattern ≡ o → Small (of_pattern o)
 pattern-small pattern (Accepts p) e = record { number = omega arith; place = omega arith }
 pattern-small pattern (Refuses n q) e =
     let h = refuses-says pattern n q e in
-    let z = says-small pattern h.verdict no_table h.says in
+    let z = says-small pattern h.refusal h.says in
     record { number = omega (arith, h.number, z.0); place = omega (arith, h.place, z.1) }
 
 module _ (pattern log : List ℕ) where

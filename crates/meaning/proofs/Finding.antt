@@ -16,7 +16,7 @@ use Rattle.pattern.specs.Pattern.{Pattern}
 use Rattle.pattern.specs.Reading.{Outcome, Accepts, Refuses, outcome_of}
 use Rattle.pattern.proofs.Outcomes.{refuses-says}
 use Rattle.meaning.specs.Meaning.{answers_in}
-use Rattle.meaning.specs.Refusals.{Refusal, refused, accepted, bad_count, of_pattern, refusal, pick_refusal}
+use Rattle.meaning.specs.Refusals.{Signal, refused, accepted, bad_count, of_pattern, refusal, pick_refusal}
 use Rattle.meaning.specs.Finding.{answers_by, LocalBy, LocalText, list_of}
 use Rattle.meaning.proofs.Tree.{few-answers}
 use Rattle.meaning.proofs.Run.{says-length, run-bytes}
@@ -40,19 +40,19 @@ pub good-pattern : (pattern log : List ℕ) (p : Pattern) → length log ≤ 614
 good-pattern pattern log p h e = short-log pattern log h ∙ ap of_pattern e
 
 -- the list of a refused pattern or log is empty
-pub refused-list : (pattern log : List ℕ) (r : Refusal) → refusal pattern log ≡ r → 1 ≤ r.number → list_of pattern log ≡ []
+pub refused-list : (pattern log : List ℕ) (r : Signal) → refusal pattern log ≡ r → 1 ≤ r.number → list_of pattern log ≡ []
 unfolding list_of
 refused-list pattern log r e h = go (eqb (refusal pattern log).number 0) refl
   where
     go : (b : Bool) → eqb (refusal pattern log).number 0 ≡ b → cond b (answers_by (outcome_of pattern) log) [] ≡ []
-    go true k = absurd (omega (arith, eqb-true (refusal pattern log).number 0 k, ap (λ (x : Refusal). x.number) e))
+    go true k = absurd (omega (arith, eqb-true (refusal pattern log).number 0 k, ap (λ (x : Signal). x.number) e))
     go false k = refl
 
 -- the list of an accepted one is its answers
 pub accepted-list : (pattern log : List ℕ) (p : Pattern) → length log ≤ 61440 → outcome_of pattern ≡ Accepts p → list_of pattern log ≡ answers_in p log
 unfolding list_of
 accepted-list pattern log p h e =
-    ap₂ (λ (x : Refusal) (o : Outcome). cond (eqb x.number 0) (answers_by o log) []) (good-pattern pattern log p h e) e
+    ap₂ (λ (x : Signal) (o : Outcome). cond (eqb x.number 0) (answers_by o log) []) (good-pattern pattern log p h e) e
 
 -- for every pattern and every log, accepted or not, the answers are no more than the log's lines
 pub list-few : (pattern log : List ℕ) → length (list_of pattern log) ≤ length (lines log)
@@ -73,8 +73,8 @@ pub record AcceptedPattern (pattern log : List ℕ) : Type 0 where
 pub accepted-number : (pattern log : List ℕ) → (refusal pattern log).number ≡ 0 → AcceptedPattern pattern log
 accepted-number pattern log e = go (ltb 61440 (length log)) refl (outcome_of pattern) refl
   where
-    number : (r : Refusal) → refusal pattern log ≡ r → 0 ≡ r.number
-    number r k = sym e ∙ ap (λ (x : Refusal). x.number) k
+    number : (r : Signal) → refusal pattern log ≡ r → 0 ≡ r.number
+    number r k = sym e ∙ ap (λ (x : Signal). x.number) k
 
     go : (b : Bool) → ltb 61440 (length log) ≡ b → (o : Outcome) → outcome_of pattern ≡ o → AcceptedPattern pattern log
     go true k o j = absurd (omega (arith, number (refused 1 0) (long-log pattern log (ltb-true 61440 (length log) k))))
@@ -82,7 +82,7 @@ accepted-number pattern log e = go (ltb 61440 (length log)) refl (outcome_of pat
     go false k (Refuses n q) j = absurd (omega (arith, number (refused n q) (bad-pattern pattern log n q (ltb-false 61440 (length log) k) j), (refuses-says pattern n q j).some))
 
 pub accepted-by : (pattern log : List ℕ) → refusal pattern log ≡ accepted → AcceptedPattern pattern log
-accepted-by pattern log e = accepted-number pattern log (ap (λ (x : Refusal). x.number) e)
+accepted-by pattern log e = accepted-number pattern log (ap (λ (x : Signal). x.number) e)
 
 -- the undamaged run, for the list of an accepted pattern and log: the run alone is accepted, and has, without `in` and `out`, the part of the list that lies within it
 module _ (pattern a run b : List ℕ) (e : refusal pattern (a ++ (run ++ b)) ≡ accepted) where
@@ -113,11 +113,11 @@ module _ (pattern log : List ℕ) (k : ℕ) where
   pick-accepted e = go (eqb (refusal pattern log).number 0) (bad_count k) refl refl
     where
       go : (a b : Bool) → eqb (refusal pattern log).number 0 ≡ a → bad_count k ≡ b → ((refusal pattern log).number ≡ 0) × (1 ≤ k) × (k ≤ 16)
-      go true true i j = absurd (omega (arith, e, ap (λ (x : Refusal). x.number) (pick-count true i j)))
+      go true true i j = absurd (omega (arith, e, ap (λ (x : Signal). x.number) (pick-count true i j)))
       go true false i j =
           let c = and-true (leb 1 k) (leb k 16) (not-false (leb 1 k && leb k 16) j) in
           (eqb-true (refusal pattern log).number 0 i, leb-true 1 k c.0, leb-true k 16 c.1)
-      go false b i j = absurd (eqb-false (refusal pattern log).number 0 i (sym (ap (λ (x : Refusal). x.number) (pick-as i)) ∙ e))
+      go false b i j = absurd (eqb-false (refusal pattern log).number 0 i (sym (ap (λ (x : Signal). x.number) (pick-as i)) ∙ e))
 
   pub pick-allowed : (refusal pattern log).number ≡ 0 → 1 ≤ k → k ≤ 16 → (pick_refusal pattern log k).number ≡ 0
-  pick-allowed e h i = ap (λ (x : Refusal). x.number) (pick-count false (eq-eqb (refusal pattern log).number 0 e) (ap not (true-and (leb 1 k) (leb k 16) (le-leb 1 k h) (le-leb k 16 i))))
+  pick-allowed e h i = ap (λ (x : Signal). x.number) (pick-count false (eq-eqb (refusal pattern log).number 0 e) (ap not (true-and (leb 1 k) (leb k 16) (le-leb 1 k h) (le-leb k 16 i))))

@@ -4,3 +4,4 @@ pub mod Shown
 pub mod Run
 pub mod Finding
 pub mod Bounds
+pub mod Replies

@@ -12,9 +12,10 @@ use lib.Dec.{eqb}
 use borrow.Author.Tests.{eq-eqb, ne_eqb, not-true}
 use native.Mathlib.Omega.{arith}
 use Rattle.basics.proofs.Basics.{cases, le-or-lt, take-map}
-use Rattle.stretches.specs.Stretch.{Stretch, In, Fine, Op, answers}
+use Rattle.stretches.specs.declared.Stretch.{Stretch}
+use Rattle.stretches.specs.Stretch.{In, Fine, Op, answers}
 use Rattle.stretches.specs.Stretch as op
-use Rattle.stretches.specs.Front.{Front, None, At}
+use Rattle.stretches.specs.Front.{Front, None, Some}
 use Rattle.stretches.specs.Operators.{operator_of, apply}
 use Rattle.stretches.specs.Table.{leaf_kind, chain_kind, proof_kind}
 use Rattle.stretches.specs.Shown.{nothing, proves, shown_below, proven, spanning, Proved, span_of}
@@ -58,13 +59,13 @@ within-few v b [] w = omega arith
 within-few v b (z ∷ l) w = omega (arith, w.0, within-few (suc z.node) b l w.1)
 
 -- the first one's own stretch
-at_first : (v u : ℕ) (x : Stretch) (l : List Shown) → u ≡ v → stretch_at (shows v x ∷ l) u ≡ At x
-at_first v u x l e = ap (λ (b : Bool). cond b (At x) (stretch_at l u)) (eq-eqb v u (sym e))
+at_first : (v u : ℕ) (x : Stretch) (l : List Shown) → u ≡ v → stretch_at (shows v x ∷ l) u ≡ Some x
+at_first v u x l e = ap (λ (b : Bool). cond b (Some x) (stretch_at l u)) (eq-eqb v u (sym e))
 
 -- nothing is shown of a node before or behind them
 at-outside : (v b u : ℕ) (l : List Shown) → Within v b l → (u < v) ⊎ (b ≤ u) → stretch_at l u ≡ None
 at-outside v b u [] w o = refl
-at-outside v b u (z ∷ l) w o = ap (λ (t : Bool). cond t (At z.stretch) (stretch_at l u)) (ne_eqb z.node u (other o)) ∙ at-outside (suc z.node) b u l w.1 (later o)
+at-outside v b u (z ∷ l) w o = ap (λ (t : Bool). cond t (Some z.stretch) (stretch_at l u)) (ne_eqb z.node u (other o)) ∙ at-outside (suc z.node) b u l w.1 (later o)
   where
     other : (u < v) ⊎ (b ≤ u) → z.node ≡ u → ⊥
     other (inl h) e = omega (arith, w.0)
@@ -77,12 +78,12 @@ at-outside v b u (z ∷ l) w o = ap (λ (t : Bool). cond t (At z.stretch) (stret
 -- of two lists in succession, where one shows nothing the other counts
 at_left : (l k : List Shown) (u : ℕ) → stretch_at k u ≡ None → stretch_at (l ++ k) u ≡ stretch_at l u
 at_left [] k u e = e
-at_left (z ∷ l) k u e = ap (cond (eqb z.node u) (At z.stretch)) (at_left l k u e)
+at_left (z ∷ l) k u e = ap (cond (eqb z.node u) (Some z.stretch)) (at_left l k u e)
 
 at_right : (l k : List Shown) (u : ℕ) → stretch_at l u ≡ None → stretch_at (l ++ k) u ≡ stretch_at k u
 at_right [] k u e = refl
 at_right (z ∷ l) k u e =
-    cases (eqb z.node u) (λ b. cond b (At z.stretch) (stretch_at l u) ≡ None → cond b (At z.stretch) (stretch_at (l ++ k) u) ≡ stretch_at k u)
+    cases (eqb z.node u) (λ b. cond b (Some z.stretch) (stretch_at l u) ≡ None → cond b (Some z.stretch) (stretch_at (l ++ k) u) ≡ stretch_at k u)
     (λ t h. let y : ◌≡◌ {A = ℕ} 0 1 = cc in absurd (omega arith)) (λ t h. at_right l k u h) e
 
 -- f gives what the list shows of the nodes from v on and below b
@@ -170,7 +171,7 @@ module _ (w : Valuation) (n : ℕ) (leaves : (h : Symbol) → Fine n (w.leaf h))
       go (some o) j = below_in o (evals w ps) fine.rising fine.sound x j
 
   -- and those of an operator span its answer, but for what proves it
-  fronts-span : is_operator (Node h ps) ≡ true → span_of (spanning (proof_kind (kind_of h)) (fronts w h ps x)) ≡ At x
+  fronts-span : is_operator (Node h ps) ≡ true → span_of (spanning (proof_kind (kind_of h)) (fronts w h ps x)) ≡ Some x
   fronts-span e =
       let o = by_kind w.measure h (not-true _ e) in
       ap₂ (λ (b : Bool) (q : Option Op). span_of (spanning b (below q (evals w ps) x))) (sym o.proven) o.is
@@ -194,11 +195,11 @@ module _ (w : Valuation) where
     within_all c b Nil gs e = omega arith
     within_all c b (Cons p ps) [] e = omega arith
     within_all c b (Cons p ps) (None ∷ gs) e = within-lower c (c + nodes p) b (shown_all w (c + nodes p) ps gs) (omega arith) (within_all (c + nodes p) b ps gs (omega arith))
-    within_all c b (Cons p ps) (At y ∷ gs) e =
+    within_all c b (Cons p ps) (Some y ∷ gs) e =
         within-append c (c + nodes p) b (shown_from w c p y) (shown_all w (c + nodes p) ps gs) (within-from c (c + nodes p) p y refl) (within_all (c + nodes p) b ps gs (omega arith))
 
   -- the first of them is the pattern's
-  at_own : (v : ℕ) (p : Pattern) (x : Stretch) → stretch_at (shown_from w v p x) v ≡ At x
+  at_own : (v : ℕ) (p : Pattern) (x : Stretch) → stretch_at (shown_from w v p x) v ≡ Some x
   at_own v (Node h ps) x = at_first v v x (shown_all w (suc v) ps (fronts w h ps x)) refl
 
   module _ (f : ℕ → Front) where
@@ -213,7 +214,7 @@ module _ (w : Valuation) where
         ap₂ (λ (g : Front) (t : List Front). g ∷ t)
         (a c (omega arith) (omega (arith, nodes-some p)) ∙ at-outside m b c (shown_all w m ps gs) r (inl (omega (arith, nodes-some p))))
         (at-operands m b ps gs (omega arith) i (λ u h. a u (omega arith)))
-    at-operands c b (Cons p ps) (At y ∷ gs) e i a =
+    at-operands c b (Cons p ps) (Some y ∷ gs) e i a =
         let m = c + nodes p in
         let l = shown_from w c p y in
         let k = shown_all w m ps gs in
@@ -225,18 +226,18 @@ module _ (w : Valuation) where
     -- `has` have what proves it instead of B's part in the span
     record Why (t : ℕ) (q : Pattern) (y : Stretch) : Type 0 where
       answer : In y.start y.end (eval w q)
-      span : is_operator q ≡ true → span_of (map f (numbers_spanning t q)) ≡ At y
+      span : is_operator q ≡ true → span_of (map f (numbers_spanning t q)) ≡ Some y
       proof : ProofShown (root_kind q) y (map f (numbers_below t q))
 
     module _ (n : ℕ) (leaves : (h : Symbol) → Fine n (w.leaf h)) where
       -- sub-pattern u of a pattern, or of operands, has number t
       mutual
         why : (v b : ℕ) (p : Pattern) (x : Stretch) → b ≡ v + nodes p → In x.start x.end (eval w p) → Agrees f v b (shown_from w v p x)
-            → (t u : ℕ) (d : Pattern) (y : Stretch) → t ≡ v + u → t < b → f t ≡ At y → Why t (get_or (parts p) u d) y
+            → (t u : ℕ) (d : Pattern) (y : Stretch) → t ≡ v + u → t < b → f t ≡ Some y → Why t (get_or (parts p) u d) y
         why v b (Node h ps) x e i a t zero d y q l s =
             let gs = fronts w h ps x in
             let k = shown_all w (suc v) ps gs in
-            let z : At x ≡ At y = sym (at_first v t x k (omega arith)) ∙ sym (a t (omega arith) l) ∙ s in
+            let z : Some x ≡ Some y = sym (at_first v t x k (omega arith)) ∙ sym (a t (omega arith) l) ∙ s in
             let same : x ≡ y = cc in
             let number : map f (numbers_from (suc t) ps) ≡ gs =
             ap (λ (c : ℕ). map f (numbers_from (suc c) ps)) (omega arith) ∙ at-operands (suc v) b ps gs (omega arith) (fronts-in w n leaves h ps x i) (agrees-rest f v b x k a) in
@@ -250,7 +251,7 @@ module _ (w : Valuation) where
             whys (suc v) b ps gs (omega arith) (fronts-in w n leaves h ps x i) (agrees-rest f v b x (shown_all w (suc v) ps gs) a) t u d y (omega arith) l s
 
         whys : (c b : ℕ) (ps : Patterns) (gs : List Front) → b ≡ c + nodes_of ps → EachIn gs (evals w ps) → Agrees f c b (shown_all w c ps gs)
-            → (t u : ℕ) (d : Pattern) (y : Stretch) → t ≡ c + u → t < b → f t ≡ At y → Why t (get_or (parts_of ps) u d) y
+            → (t u : ℕ) (d : Pattern) (y : Stretch) → t ≡ c + u → t < b → f t ≡ Some y → Why t (get_or (parts_of ps) u d) y
         whys c b Nil gs e i a t u d y q l s = absurd (omega arith)
         whys c b (Cons p ps) [] e i a t u d y q l s = absurd i
         whys c b (Cons p ps) (None ∷ gs) e i a t u d y q l s =
@@ -259,7 +260,7 @@ module _ (w : Valuation) where
             (λ h. let g : f t ≡ None = a t (omega arith) l ∙ at-outside m b t (shown_all w m ps gs) (within_all m b ps gs (omega arith)) (inl (omega arith)) in
             let z : ◌≡◌ {A = ℕ} 0 1 = cc in absurd (omega arith))
             (λ k h. whys m b ps gs (omega arith) i (λ u h. a u (omega arith)) t k d y (omega arith) l s)
-        whys c b (Cons p ps) (At z ∷ gs) e i a t u d y q l s =
+        whys c b (Cons p ps) (Some z ∷ gs) e i a t u d y q l s =
             let m = c + nodes p in
             let r = shown_from w c p z in
             let k = shown_all w m ps gs in
@@ -277,14 +278,14 @@ pub shown-few : (p : Pattern) (ls : List Line) (x : Stretch) → length (shown p
 shown-few p ls x = omega (arith, within-few 0 (nodes p) (shown p ls x) (shown-within p ls x))
 
 module _ (p : Pattern) (ls : List Line) (x : Stretch) (i : In x.start x.end (answers_of p ls)) where
-  node-below : (v : ℕ) (y : Stretch) → stretch_at (shown p ls x) v ≡ At y → v < nodes p
+  node-below : (v : ℕ) (y : Stretch) → stretch_at (shown p ls x) v ≡ Some y → v < nodes p
   node-below v y e = go (le-or-lt (nodes p) v)
     where
       go : (nodes p ≤ v) ⊎ (v < nodes p) → v < nodes p
       go (inl h) = let n = at-outside 0 (nodes p) v (shown p ls x) (shown-within p ls x) (inr h) in let z : ◌≡◌ {A = ℕ} 0 1 = cc in absurd (omega arith)
       go (inr h) = h
 
-  explained : (v : ℕ) (y : Stretch) → stretch_at (shown p ls x) v ≡ At y → Why (over_lines ls) (stretch_at (shown p ls x)) v (get_or (parts p) v p) y
+  explained : (v : ℕ) (y : Stretch) → stretch_at (shown p ls x) v ≡ Some y → Why (over_lines ls) (stretch_at (shown p ls x)) v (get_or (parts p) v p) y
   explained v y e = why (over_lines ls) (stretch_at (shown p ls x)) (length ls) (fine-leaf ls) 0 (nodes p) p x (omega arith) i (λ u h l. refl) v v p y (omega arith) (node-below v y e) e
 
   -- every answer has a list that explains it

@@ -3,7 +3,9 @@ use Prim.Native.Nat.{ℕ, suc, ◌+◌, ◌≤◌, ◌<◌}
 use mathlib.Core.Path.{◌≡◌, refl, ap, ap₂, ◌∙◌}
 use mathlib.Core.List.{List, ◌∷◌, map}
 use native.Mathlib.Omega.{arith}
-use Rattle.stretches.specs.Stretch.{Stretch, marks}
+use Rattle.stretches.specs.declared.Node as row
+use Rattle.stretches.specs.declared.Stretch.{Stretch}
+use Rattle.stretches.specs.Stretch.{marks}
 use Rattle.stretches.specs.Operators.{operator_of, apply}
 use Rattle.stretches.specs.Table.{size_at, second_at, next_of, stop_of, list_at}
 use Rattle.stretches.specs.inner.Operands.{operands_from, operands_of}
@@ -18,10 +20,10 @@ use Rattle.meaning.specs.Meaning.{hits, measure_in, eval, evals, over_lines, ans
 pub nodes-some : (p : Pattern) → 0 < nodes p
 nodes-some (Node h ps) = omega arith
 
-pub tree-size : (rows : List ℕ) (v : ℕ) (p : Pattern) → Tree rows v p → size_at rows v ≡ nodes p
+pub tree-size : (rows : List row.Node) (v : ℕ) (p : Pattern) → Tree rows v p → size_at rows v ≡ nodes p
 tree-size rows v (Node h ps) t = t.0.size
 
-module _ (rows : List ℕ) (ls : List Line) where
+module _ (rows : List row.Node) (ls : List Line) where
   -- a node's list, by its symbol
   node-is : (v : ℕ) (h : Symbol) (n : ℕ) → v < 32 → Entry rows v h n
       → list_at (over_table rows ls) rows v ≡ apply (operator_of (measure_in ls) (kind_of h) (first_of h)) (marks 0 (map (hits (kind_of h) (first_of h) (second_of h)) ls)) (operands_of (over_table rows ls) rows v)
@@ -46,11 +48,11 @@ module _ (rows : List ℕ) (ls : List Line) where
         (ap (operands_from (over_table rows ls) rows stop) n ∙ trees-lists stop (c + nodes p) ps t.1 (omega arith) (omega arith))
 
 -- the list of a table in a log is that of its first node over the log's lines
-pub table-in : (rows log : List ℕ) → table_in rows log ≡ list_at (over_table rows (says log)) rows 0
+pub table-in : (rows : List row.Node) (log : List ℕ) → table_in rows log ≡ list_at (over_table rows (says log)) rows 0
 unfolding table_in
 table-in rows log = refl
 
 -- and the pattern's
-pub table-answers : (rows : List ℕ) (p : Pattern) (log : List ℕ) → Tree rows 0 p → nodes p ≤ 32 → table_in rows log ≡ answers_in p log
+pub table-answers : (rows : List row.Node) (p : Pattern) (log : List ℕ) → Tree rows 0 p → nodes p ≤ 32 → table_in rows log ≡ answers_in p log
 unfolding table_in
 table-answers rows p log t few = tree-list rows (says log) 0 p t (omega arith)

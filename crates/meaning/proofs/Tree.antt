@@ -7,7 +7,8 @@ use mathlib.Core.List.{List, ◌++◌, map, map-append}
 use lib.ListN.{length, take, drop, length-map}
 use lib.Seq.{take-append-add, drop-append-add, take-append-le}
 use native.Mathlib.Omega.{arith}
-use Rattle.stretches.specs.Stretch.{Stretch, st, Fine, marks}
+use Rattle.stretches.specs.declared.Stretch.{Stretch}
+use Rattle.stretches.specs.Stretch.{st, Fine, marks}
 use Rattle.stretches.specs.Run.{in_run}
 use Rattle.stretches.specs.Operators.{apply}
 use Rattle.stretches.specs.Table.{holder_kind}

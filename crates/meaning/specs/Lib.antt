@@ -2,3 +2,4 @@ pub mod Meaning
 pub mod Shown
 pub mod Refusals
 pub mod Finding
+pub mod Replies

@@ -3,7 +3,9 @@
 use Rattle.std.specs.Prelude.{ℕ, suc, ◌≡◌, refl, Bool, false, cond, List, [], ◌∷◌, map, take, drop, eqb}
 use Rattle.std.proofs.Math.Option.{Option, none, some}
 use Rattle.stretches.specs.Stretch as s
-use Rattle.stretches.specs.Stretch.{Stretch, st, Op, marks}
+use Rattle.stretches.specs.declared.Node as row
+use Rattle.stretches.specs.declared.Stretch.{Stretch}
+use Rattle.stretches.specs.Stretch.{st, Op, marks}
 use Rattle.stretches.specs.Operators.{operator_of, apply}
 use Rattle.stretches.specs.Table.{kind_at, first_at, second_at, holder_kind, Given, list_at}
 use Rattle.stretches.specs.Run.{in_run}
@@ -108,9 +110,9 @@ ex-out-breaks = (refl, refl)
 -- ── The same of a table of nodes, as a pattern is read into one ──
 
 -- a node's own list has [p..p] for each line p that it matches
-abbrev pub over_table : List ℕ → List Line → Given
+abbrev pub over_table : List row.Node → List Line → Given
 over_table rows ls = record { own = λ v. marks 0 (map (hits (kind_at rows v) (first_at rows v) (second_at rows v)) ls); measure = measure_in ls }
 
 -- the list of its first node, which is the pattern's (`table-answers` of proofs/Table.antt)
-unfoldable pub table_in : List ℕ → List ℕ → List Stretch
+unfoldable pub table_in : List row.Node → List ℕ → List Stretch
 table_in rows log = list_at (over_table rows (says log)) rows 0

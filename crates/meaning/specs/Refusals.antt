@@ -2,18 +2,18 @@
 -- A refusal has its number and a place, 0 but for 3; number 0: accepted. No refusal has the number 9.
 -- Assumes nothing.
 use Rattle.std.specs.Prelude.{ℕ, ◌%◌, Bool, false, not, cond, ◌&&◌, ◌||◌, List, [], ◌∷◌, length, leb, ltb, eqb}
-use Rattle.stretches.specs.Stretch.{Stretch}
+use Rattle.stretches.specs.declared.Stretch.{Stretch}
 use Rattle.stretches.specs.Lent.{lists_of}
 use Rattle.pattern.specs.Reading.{Outcome, outcome_of, number_in, place_in}
 
-pub record Refusal : Type 0 where
+pub record Signal : Type 0 where
   pub number : ℕ
   pub place : ℕ
 
-abbrev pub refused : ℕ → ℕ → Refusal
+abbrev pub refused : ℕ → ℕ → Signal
 refused n p = record { number = n; place = p }
 
-abbrev pub accepted : Refusal
+abbrev pub accepted : Signal
 accepted = refused 0 0
 
 -- ── When each applies ──
@@ -74,15 +74,15 @@ bad_count k = not (leb 1 k && leb k 16)
 -- ── Which a call gets ──
 
 -- of what the pattern is read as: 2 to 5
-abbrev pub of_pattern : Outcome → Refusal
+abbrev pub of_pattern : Outcome → Signal
 of_pattern o = refused (number_in o) (place_in o)
 
 -- over a pattern and a log: 1, then these
-unfoldable pub refusal : List ℕ → List ℕ → Refusal
+unfoldable pub refusal : List ℕ → List ℕ → Signal
 refusal pattern log = cond (long_log log) (refused 1 0) (of_pattern (outcome_of pattern))
 
 -- of the picking call: these, then 10
-unfoldable pub pick_refusal : List ℕ → List ℕ → ℕ → Refusal
+unfoldable pub pick_refusal : List ℕ → List ℕ → ℕ → Signal
 pick_refusal pattern log k = cond (eqb (refusal pattern log).number 0) (cond (bad_count k) (refused 10 0) accepted) (refusal pattern log)
 
 -- over lent lists, given whether the call is miscalled: 6, 7, 8; its number, the place being 0

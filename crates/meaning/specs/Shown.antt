@@ -1,8 +1,9 @@
 -- Every stretch with the lines that made it: docs/FORMATS.md, "The lines that made a stretch". Assumes nothing.
 use Rattle.std.specs.Prelude.{ℕ, suc, ◌+◌, ◌≤◌, ◌<◌, ◌≡◌, refl, Bool, true, not, cond, List, [], ◌∷◌, ◌++◌, map, get_or, eqb}
 use Rattle.std.proofs.Math.Option.{Option, none, some}
-use Rattle.stretches.specs.Stretch.{Stretch, st, In, length_of, Holder, Inner, Op}
-use Rattle.stretches.specs.Front.{Front, None, At}
+use Rattle.stretches.specs.declared.Stretch.{Stretch}
+use Rattle.stretches.specs.Stretch.{st, In, length_of, Holder, Inner, Op}
+use Rattle.stretches.specs.Front.{Front, None, Some}
 use Rattle.stretches.specs.Table.{leaf_kind, proof_kind}
 use Rattle.stretches.specs.Shown.{nothing, proves, shown_below, spanning, Proved, span_of}
 use Rattle.records.specs.declared.Line.{Line}
@@ -26,7 +27,7 @@ below (some o) ls x = shown_below o ls x
 -- of a stretch what is shown of it; of none nothing
 abbrev pub of_front : Front → (Stretch → List Shown) → List Shown
 of_front None f = []
-of_front (At y) f = f y
+of_front (Some y) f = f y
 
 -- nodes are numbered as the pattern is read: a node before its operands, and these in their order
 abbrev mutual
@@ -76,7 +77,7 @@ is_operator p = not (leaf_kind (root_kind p))
 -- the stretch that is shown of node v; none where it took no part
 abbrev pub stretch_at : List Shown → ℕ → Front
 stretch_at [] v = None
-stretch_at (z ∷ zs) v = cond (eqb z.node v) (At z.stretch) (stretch_at zs v)
+stretch_at (z ∷ zs) v = cond (eqb z.node v) (Some z.stretch) (stretch_at zs v)
 
 -- in node order from v on, each node at most once
 abbrev pub NodesFrom : ℕ → List Shown → Type 0
@@ -86,15 +87,15 @@ NodesFrom v (z ∷ zs) = (v ≤ z.node) × NodesFrom (suc z.node) zs
 -- the list explains why x is an answer of the pattern
 pub record Explains (p : Pattern) (ls : List Line) (x : Stretch) (l : List Shown) : Type 0 where
   -- it has the answer itself for node 0
-  pub whole : stretch_at l 0 ≡ At x
+  pub whole : stretch_at l 0 ≡ Some x
   -- it is in node order, and each node comes at most once
   pub rising : NodesFrom 0 l
   -- each stretch is an answer of its own sub-pattern
-  pub answers : (v : ℕ) (y : Stretch) → stretch_at l v ≡ At y → (v < nodes p) × In y.start y.end (answers_of (part_at p v) ls)
+  pub answers : (v : ℕ) (y : Stretch) → stretch_at l v ≡ Some y → (v < nodes p) × In y.start y.end (answers_of (part_at p v) ls)
   -- an operator's stretch is exactly the span of those shown directly below it, but for what `in` and `has` show of B
-  pub spans : (v : ℕ) (y : Stretch) → stretch_at l v ≡ At y → is_operator (part_at p v) ≡ true → span_of (map (stretch_at l) (numbers_spanning v (part_at p v))) ≡ At y
+  pub spans : (v : ℕ) (y : Stretch) → stretch_at l v ≡ Some y → is_operator (part_at p v) ≡ true → span_of (map (stretch_at l) (numbers_spanning v (part_at p v))) ≡ Some y
   -- that one proves the answer
-  pub proofs : (v : ℕ) (y : Stretch) → stretch_at l v ≡ At y → ProofShown (root_kind (part_at p v)) y (map (stretch_at l) (numbers_below v (part_at p v)))
+  pub proofs : (v : ℕ) (y : Stretch) → stretch_at l v ≡ Some y → ProofShown (root_kind (part_at p v)) y (map (stretch_at l) (numbers_below v (part_at p v)))
 
 -- ── An example ──
 

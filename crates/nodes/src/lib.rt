@@ -1,9 +1,10 @@
-// The kinds of nodes by number, the columns of a table of 32 nodes, and where a node's operands stand in it: the first behind its operator, each next one behind the subtree of the one before.
-// rows: the table, in five columns of 32; the second has the sizes of the subtrees.
+// The kinds of nodes by number, tables of 32 nodes, and where a node's operands stand in one: the first behind its operator, each next one behind the subtree of the one before.
 #![tactic(auto)]
 
 ghost use Rattle.std.specs.Prelude.{◌≡◌, ◌<◌, ◌≤◌};
 ghost use Rattle.stretches.specs.Table.{leaf_kind, chain_kind, proof_kind, next_of, stop_of};
+
+pub use stretches::Node;
 
 // The kinds of nodes: operators, by their numbers;
 pub const OR: usize = 1;
@@ -34,59 +35,50 @@ pub const MARKS: usize = 16;
 
 pub const LIST: usize = 17;
 
-// The nodes that a table has room for.
+// The nodes that a table has room for, and a table.
 pub const NODES: usize = 32;
 
-// Where a table's columns begin, the kinds' at cell 0: sizes of the subtrees, first, second and third numbers; and its cells.
-pub const SIZE: usize = 32;
+pub type Nodes = [Node; NODES];
 
-pub const FIRST: usize = 64;
-
-pub const SECOND: usize = 96;
-
-pub const THIRD: usize = 128;
-
-pub const TABLE: usize = 160;
+// A place where no node stands.
+pub const NO_NODE: Node = Node {
+    kind: 0,
+    size: 0,
+    first: 0,
+    second: 0,
+    third: 0,
+};
 
 // Whether a pattern's leaves have this kind.
 pub fn is_leaf(kind: usize) -> bool
     ensures { result ≡ leaf_kind kind }
 {
-    if kind == EV {
-        return true;
-    }
-    kind == FR
+    kind == EV || kind == FR
 }
 
 // Whether the operands of this kind follow each other: `row` and `then`.
 pub fn is_chain(kind: usize) -> bool
     ensures { result ≡ chain_kind kind }
 {
-    if kind == ROW {
-        return true;
-    }
-    kind == THEN
+    kind == ROW || kind == THEN
 }
 
 // Whether this kind shows of B what proves an answer: `in` and `has`, which keep what one of B is found for.
 pub fn is_proof(kind: usize) -> bool
     ensures { result ≡ proof_kind kind }
 {
-    if kind == IN {
-        return true;
-    }
-    kind == HAS
+    kind == IN || kind == HAS
 }
 
 // The sibling after c: past c, and at most 32; 32 where there is no node c.
-pub fn next_of(rows: &[usize; TABLE], c: usize) -> usize
+pub fn next_of(rows: &Nodes, c: usize) -> usize
     ensures lower_bound { (c < 32 → c < result) × (result ≤ 32) }
     ensures value { result ≡ next_of rows.now c }
 {
     if NODES <= c {
         return NODES;
     }
-    let n = rows[SIZE + c];
+    let n = rows[c].size;
     if n == 0 {
         return c + 1;
     }
@@ -94,13 +86,13 @@ pub fn next_of(rows: &[usize; TABLE], c: usize) -> usize
 }
 
 // The end of v's operands; 32 where there is no node v.
-pub fn stop_of(rows: &[usize; TABLE], v: usize) -> usize
+pub fn stop_of(rows: &Nodes, v: usize) -> usize
     ensures upper_bound { result ≤ 32 }
     ensures value { result ≡ stop_of rows.now v }
 {
     if NODES <= v {
         return NODES;
     }
-    let n = rows[SIZE + v];
+    let n = rows[v].size;
     if n <= NODES - v { v + n } else { NODES }
 }

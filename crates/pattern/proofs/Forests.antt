@@ -1,12 +1,15 @@
--- Lists of trees and the sizes and depths of their nodes in preorder: the next tree stands past the nodes of those before it.
+-- Lists of trees and the parts and depths of their nodes in preorder: the next tree stands past the nodes of those before it.
 -- Assumes nothing.
 use Prim.Native.Nat.{ℕ, zero, suc, ◌+◌, ◌≤◌, ◌<◌, max}
-use mathlib.Core.Path.{◌≡◌, refl, sym, ap, ◌∙◌}
-use mathlib.Core.List.{List, [], ◌∷◌, ◌++◌, append_assoc}
-use lib.ListN.{length, get_or, length-append}
+use mathlib.Core.Path.{◌≡◌, refl, sym, ap, ap₂, ◌∙◌}
+use mathlib.Core.List.{List, [], ◌∷◌, ◌++◌, map, append_assoc, map-append}
+use lib.ListN.{length, get_or, length-append, length-map}
 use lib.Seq.{get_or-append-add}
 use native.Mathlib.Omega.{arith}
-use Rattle.pattern.specs.Pattern.{Pattern, Node, Patterns, Nil, Cons, count, nodes, nodes_of, depth, deepest, preorder, preorders, parts, parts_of, sizes, sizes_of}
+use Rattle.pattern.specs.Pattern.{Pattern, Node, Patterns, Nil, Cons, count, nodes, nodes_of, depth, deepest, preorder, preorders, parts, parts_of}
+use Rattle.stretches.specs.declared.Node as row
+use Rattle.stretches.specs.Table.{no_node, node_at}
+use Rattle.pattern.specs.Rows.{node_of}
 use Rattle.pattern.specs.Reading.{firsts, others}
 
 -- the depth of each subtree, in preorder
@@ -18,16 +21,7 @@ abbrev mutual
   depths_of Nil = []
   depths_of (Cons p ps) = depths p ++ depths_of ps
 
--- a size for each node
-mutual
-  pub length-sizes : (p : Pattern) → length (sizes p) ≡ nodes p
-  length-sizes (Node h ps) = ap suc (length-sizes-of ps)
-
-  pub length-sizes-of : (ps : Patterns) → length (sizes_of ps) ≡ nodes_of ps
-  length-sizes-of Nil = refl
-  length-sizes-of (Cons p ps) = omega (arith, length-append (sizes p) (sizes_of ps), length-sizes p, length-sizes-of ps)
-
--- a depth for each
+-- a depth for each node
 mutual
   pub length-depths : (p : Pattern) → length (depths p) ≡ nodes p
   length-depths (Node h ps) = ap suc (length-depths-of ps)
@@ -59,16 +53,20 @@ mutual
 -- the tree past the first n, where it stands in the lists and what it adds
 pub record Next (n : ℕ) (f : Patterns) : Type 0 where
   pub tree : Pattern
-  pub size : get_or (sizes_of f) (nodes_of (firsts n f)) 0 ≡ nodes tree
+  pub node : node_at (map node_of (parts_of f)) (nodes_of (firsts n f)) ≡ node_of tree
   pub deep : get_or (depths_of f) (nodes_of (firsts n f)) 0 ≡ depth tree
   pub sum : nodes_of (firsts (suc n) f) ≡ nodes_of (firsts n f) + nodes tree
   pub deepest : deepest (firsts (suc n) f) ≡ max (deepest (firsts n f)) (depth tree)
   pub short : nodes_of (firsts (suc n) f) ≤ nodes_of f
   pub some : 1 ≤ nodes tree
 
--- a tree's size stands first in its list
-first-size : (p : Pattern) (l : List ℕ) → get_or (sizes p ++ l) 0 0 ≡ nodes p
-first-size (Node h ps) l = refl
+-- a tree's node has its size
+pub size-of : (p : Pattern) → (node_of p).size ≡ nodes p
+size-of (Node h ps) = refl
+
+-- it stands first in the nodes of its list
+first-node : (p : Pattern) (l : List Pattern) → node_at (map node_of (parts p ++ l)) 0 ≡ node_of p
+first-node (Node h ps) l = refl
 
 -- so does its depth
 pub first-depth : (p : Pattern) (l : List ℕ) → get_or (depths p ++ l) 0 0 ≡ depth p
@@ -83,7 +81,7 @@ pub next : (n : ℕ) (f : Patterns) → n < count f → Next n f
 next n Nil h = absurd (omega arith)
 next zero (Cons p ps) h = record {
   tree = p;
-  size = first-size p (sizes_of ps);
+  node = first-node p (parts_of ps);
   deep = first-depth p (depths_of ps);
   sum = omega arith;
   deepest = omega arith;
@@ -94,7 +92,8 @@ next (suc n) (Cons p ps) h =
     let r = next n ps (omega arith) in
     record {
       tree = r.tree;
-      size = ap (λ (m : ℕ). get_or (sizes p ++ sizes_of ps) (m + nodes_of (firsts n ps)) 0) (sym (length-sizes p)) ∙ (get_or-append-add (sizes p) (sizes_of ps) (nodes_of (firsts n ps)) 0 ∙ r.size);
+      node = ap₂ (λ (l : List row.Node) (m : ℕ). node_at l (m + nodes_of (firsts n ps))) (map-append node_of (parts p) (parts_of ps)) (sym (length-map (parts p) node_of ∙ length-parts p))
+          ∙ (get_or-append-add (map node_of (parts p)) (map node_of (parts_of ps)) (nodes_of (firsts n ps)) no_node ∙ r.node);
       deep = ap (λ (m : ℕ). get_or (depths p ++ depths_of ps) (m + nodes_of (firsts n ps)) 0) (sym (length-depths p)) ∙ (get_or-append-add (depths p) (depths_of ps) (nodes_of (firsts n ps)) 0 ∙ r.deep);
       sum = omega (arith, r.sum);
       deepest = omega (arith, r.deepest);
@@ -102,11 +101,11 @@ next (suc n) (Cons p ps) h =
       some = r.some;
     }
 
--- the sizes of the first n trees and of the others
-pub split-sizes : (n : ℕ) (f : Patterns) → sizes_of (firsts n f) ++ sizes_of (others n f) ≡ sizes_of f
-split-sizes zero f = refl
-split-sizes (suc n) Nil = refl
-split-sizes (suc n) (Cons p ps) = append_assoc (sizes p) (sizes_of (firsts n ps)) (sizes_of (others n ps)) ∙ ap (λ (l : List ℕ). sizes p ++ l) (split-sizes n ps)
+-- the parts of the first n trees and of the others
+pub split-parts : (n : ℕ) (f : Patterns) → parts_of (firsts n f) ++ parts_of (others n f) ≡ parts_of f
+split-parts zero f = refl
+split-parts (suc n) Nil = refl
+split-parts (suc n) (Cons p ps) = append_assoc (parts p) (parts_of (firsts n ps)) (parts_of (others n ps)) ∙ ap (λ (l : List Pattern). parts p ++ l) (split-parts n ps)
 
 -- and their depths
 pub split-depths : (n : ℕ) (f : Patterns) → depths_of (firsts n f) ++ depths_of (others n f) ≡ depths_of f

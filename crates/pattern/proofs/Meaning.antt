@@ -8,14 +8,15 @@ use lib.Dec.{leb, ltb, eqb}
 use lib.ListN.{length, take}
 use borrow.Author.Tests.{eqb-true, leb-true, ltb-false}
 use native.Mathlib.Omega.{arith}
+use Rattle.std.specs.Prelude.{Option, Some, None}
 use Rattle.basics.specs.Decimal.{decimal}
 use Rattle.pattern.specs.Kinds.{Symbol, symbol, field_count, low, arity}
 use Rattle.pattern.specs.Pattern.{spell_symbol}
 use Rattle.pattern.specs.declared.State.{State}
 use Rattle.pattern.specs.declared.State.TheVariants.{Letters, Field, Digits}
 use Rattle.pattern.specs.declared.Step.{Step}
-use Rattle.pattern.specs.declared.Step.TheVariants.{Dead, Within, Closed}
-use Rattle.pattern.specs.Automaton.{first_field, second_field, third_field, step, Scan, Stop, Whole, later, after, last, finish, go, scan}
+use Rattle.pattern.specs.declared.Step.TheVariants.{Within, Closed}
+use Rattle.pattern.specs.Automaton.{slot, coded, said, first_field, second_field, third_field, step, Scan, Stop, Whole, later, after, last, finish, go, scan}
 use Rattle.basics.proofs.Basics.{cases}
 use Rattle.pattern.proofs.Fields.{rank-arity, lead, spelt-last, made-last}
 use Rattle.pattern.proofs.Scanning.{afters, joined, Counts, AllRanged, need, pending, InField, Held, Went, Shut, After, step_after, Completes, completes}
@@ -88,40 +89,45 @@ after-means s b h s' w n g n' (Whole hs) m = record {
 -- a tree is to come
 pub held-need : (s : State) → Held s → 1 ≤ need s
 held-need (Letters r m n) h = h.2
-held-need (Field k j a c n) h = h.1
-held-need (Digits k j a c v n) h = h.1
+held-need (Field f) h = h.1
+held-need (Digits f v) h = h.1
 
 -- a step
-go-means : (s : State) (b : ℕ) (w : List ℕ) → Held s → ((s' : State) → Held s' → Means s' w (scan w s')) → (t : Step) → After s b t → Means s (b ∷ w) (go (scan w) t)
-go-means s b w h f Dead a = stop-here s (b ∷ w) h
-go-means s b w h f (Within s') a = later-means s b s' w a (scan w s') (f s' a.held)
-go-means s b w h f (Closed k x y z s') a = after-means s b (symbol k x y z) s' w (held-need s h) a.0 (held-need s' a.0.held) (scan w s') (f s' a.0.held)
+go-means : (s : State) (b : ℕ) (w : List ℕ) → Held s → ((s' : State) → Held s' → Means s' w (scan w s')) → (t : Option Step) → After s b t → Means s (b ∷ w) (go (scan w) t)
+go-means s b w h f None a = stop-here s (b ∷ w) h
+go-means s b w h f (Some (Within s')) a = later-means s b s' w a (scan w s') (f s' a.held)
+go-means s b w h f (Some (Closed g s')) a = after-means s b (said g) s' w (held-need s h) a.0 (held-need s' a.0.held) (scan w s') (f s' a.0.held)
 
 -- a symbol at the end of the text
-last-means : (k j a c v n : ℕ) → Held (Digits k j a c v n) → low k j ≤ v → field_count k ≡ j + 1 → Means (Digits k j a c v n) [] (last k (first_field j a v) (second_field j c v) (third_field j v) n)
+last-means : (k j a c v n : ℕ) → Held (Digits (slot k j a c n) v) → low k j ≤ v → field_count k ≡ j + 1 → Means (Digits (slot k j a c n) v) [] (last (coded k (first_field j a v) (second_field j c v) (third_field j v)) n)
 last-means k j a c v n h r l =
-    cases (eqb (n + arity k (first_field j a v)) 1) (λ t. Means (Digits k j a c v n) [] (cond t (Whole (symbol k (first_field j a v) (second_field j c v) (third_field j v) ∷ [])) (Stop 0)))
+    cases (eqb (n + arity k (first_field j a v)) 1) (λ t. Means (Digits (slot k j a c n) v) [] (cond t (Whole (symbol k (first_field j a v) (second_field j c v) (third_field j v) ∷ [])) (Stop 0)))
     (λ t. let m = made-last k f.sound a c v j l f.earlier (r, h.2.below) in
     record {
       spelt = append-nil (lead k j a c ++ decimal v) ∙ (spelt-last k f.sound a c v j l ∙ sym (append-nil (spell_symbol (symbol k (first_field j a v) (second_field j c v) (third_field j v)))));
       counts = (h.1, omega (arith, rank-arity k f.sound (first_field j a v) (second_field j c v) (third_field j v) m.named, eqb-true (n + arity k (first_field j a v)) 1 t));
       ranged = (m.ranged, tt);
-    }) (λ t. stop-here (Digits k j a c v n) [] h)
+    }) (λ t. stop-here (Digits (slot k j a c n) v) [] h)
   where
     f : InField k j a c
     f = h.0
+
+-- the end of the text after a number
+number-means : (k j a c v n : ℕ) → Held (Digits (slot k j a c n) v) → Means (Digits (slot k j a c n) v) [] (finish (Digits (slot k j a c n) v))
+unfolding finish
+number-means k j a c v n h =
+    cases (leb (low k j) v) (λ t. Means (Digits (slot k j a c n) v) [] (cond t (cond (ltb (j + 1) (field_count k)) (Stop 0) (last (coded k (first_field j a v) (second_field j c v) (third_field j v)) n)) (Stop 0)))
+    (λ t. cases (ltb (j + 1) (field_count k)) (λ d. Means (Digits (slot k j a c n) v) [] (cond d (Stop 0) (last (coded k (first_field j a v) (second_field j c v) (third_field j v)) n)))
+    (λ d. stop-here (Digits (slot k j a c n) v) [] h)
+    (λ d. last-means k j a c v n h (leb-true (low k j) v t) (omega (arith, ltb-false (j + 1) (field_count k) d, h.0.field))))
+    (λ t. stop-here (Digits (slot k j a c n) v) [] h)
 
 -- the end of the text
 finish-means : (s : State) → Held s → Means s [] (finish s)
 unfolding finish
 finish-means (Letters r m n) h = stop-here (Letters r m n) [] h
-finish-means (Field k j a c n) h = stop-here (Field k j a c n) [] h
-finish-means (Digits k j a c v n) h =
-    cases (leb (low k j) v) (λ t. Means (Digits k j a c v n) [] (cond t (cond (ltb (j + 1) (field_count k)) (Stop 0) (last k (first_field j a v) (second_field j c v) (third_field j v) n)) (Stop 0)))
-    (λ t. cases (ltb (j + 1) (field_count k)) (λ d. Means (Digits k j a c v n) [] (cond d (Stop 0) (last k (first_field j a v) (second_field j c v) (third_field j v) n)))
-    (λ d. stop-here (Digits k j a c v n) [] h)
-    (λ d. last-means k j a c v n h (leb-true (low k j) v t) (omega (arith, ltb-false (j + 1) (field_count k) d, h.0.field))))
-    (λ t. stop-here (Digits k j a c v n) [] h)
+finish-means (Field f) h = stop-here (Field f) [] h
+finish-means (Digits f v) h = number-means f.kind f.field f.first f.second v f.need h
 
 -- a scan says what holds of the text
 pub scan-means : (w : List ℕ) (s : State) → Held s → Means s w (scan w s)

@@ -1,8 +1,9 @@
--- The outcome that is computed and what the verdicts say agree: the outcome says what holds of the text, and what is said of a text gives its outcome.
+-- The outcome that is computed and what the answers say agree: the outcome says what holds of the text, and what is said of a text gives its outcome.
 -- Assumes nothing.
 use Prim.Native.Nat.{ℕ, ◌≤◌, ◌<◌}
 use mathlib.Core.Path.{◌≡◌, refl, sym, ap, ap₂, subst, ◌∙◌}
 use mathlib.Core.Bool.{Bool, cond}
+use Rattle.std.specs.Prelude.{Result, Ok, Err}
 use mathlib.Core.List.{List}
 use lib.Dec.{ltb, eqb}
 use lib.ListN.{length}
@@ -11,12 +12,11 @@ use native.Mathlib.Omega.{arith}
 use Rattle.pattern.specs.Pattern.{Pattern, Patterns, Spells, Longest, nodes, depth, preorder}
 use Rattle.pattern.specs.declared.State.TheVariants.{Letters}
 use Rattle.pattern.specs.declared.Table.{Table}
-use Rattle.pattern.specs.declared.Parsed as declared
-use Rattle.pattern.specs.declared.Verdict.{Verdict}
-use Rattle.pattern.specs.declared.Verdict.TheVariants.{Accepted, Long, Misspelt, Crowded, Deep}
+use Rattle.pattern.specs.declared.Refusal.{Refusal}
+use Rattle.pattern.specs.declared.Refusal.TheVariants.{Long, Misspelt, Crowded, Deep}
 use Rattle.pattern.specs.Automaton.{Scan, Stop, Whole, scan}
-use Rattle.pattern.specs.Answer.{no_table, Says, number_of, place_of}
-use Rattle.pattern.specs.Reading.{build, Outcome, Accepts, Refuses, of_tree, of_trees, of_scan, outcome_of, number_in, place_in, table_of, ReadGives}
+use Rattle.pattern.specs.Answer.{table, Says, number_of, place_of}
+use Rattle.pattern.specs.Reading.{build, Outcome, Accepts, Refuses, of_tree, of_trees, of_scan, outcome_of, Gives, ReadGives}
 use Rattle.basics.proofs.Basics.{cases}
 use Rattle.pattern.proofs.Trees.{ReadAs, reading, scan-spell, build-back}
 use Rattle.pattern.proofs.Answering.{longest-unique}
@@ -30,10 +30,10 @@ pub record Acceptable (s : List ℕ) (p : Pattern) : Type 0 where
 
 -- the text is refused with this number and place
 pub record Refused (s : List ℕ) (n q : ℕ) : Type 0 where
-  pub verdict : Verdict
-  pub says : Says s verdict no_table
-  pub number : number_of verdict ≡ n
-  pub place : place_of verdict ≡ q
+  pub refusal : Refusal
+  pub says : Says s (Err refusal)
+  pub number : number_of refusal ≡ n
+  pub place : place_of refusal ≡ q
   pub some : 2 ≤ n
 
 -- what an outcome says of the text
@@ -45,14 +45,14 @@ Told s (Refuses n q) = Refused s n q
 tree-told : (s : List ℕ) (p : Pattern) → length s ≤ 1024 → Spells p s → Told s (of_tree p)
 tree-told s p l a =
     cases (ltb 32 (nodes p)) (λ b. Told s (cond b (Refuses 4 0) (cond (ltb 8 (depth p)) (Refuses 5 0) (Accepts p))))
-    (λ h. record { verdict = Crowded; says = record { short = l; pattern = p; spells = a; many = ltb-true 32 (nodes p) h; empty = refl }; number = refl; place = refl; some = omega arith })
+    (λ h. record { refusal = Crowded; says = record { short = l; pattern = p; spells = a; many = ltb-true 32 (nodes p) h }; number = refl; place = refl; some = omega arith })
     (λ h. cases (ltb 8 (depth p)) (λ b. Told s (cond b (Refuses 5 0) (Accepts p)))
-    (λ k. record { verdict = Deep; says = record { short = l; pattern = p; spells = a; few = ltb-false 32 (nodes p) h; deep = ltb-true 8 (depth p) k; empty = refl }; number = refl; place = refl; some = omega arith })
+    (λ k. record { refusal = Deep; says = record { short = l; pattern = p; spells = a; few = ltb-false 32 (nodes p) h; deep = ltb-true 8 (depth p) k }; number = refl; place = refl; some = omega arith })
     (λ k. record { short = l; spells = a; few = ltb-false 32 (nodes p) h; shallow = ltb-false 8 (depth p) k }))
 
 -- a scan's outcome
 scan-told : (s : List ℕ) (x : Scan) → length s ≤ 1024 → ReadAs s x → Told s (of_scan x)
-scan-told s (Stop p) l m = record { verdict = Misspelt p; says = record { short = l; none = m.none; place = m.place; empty = refl }; number = refl; place = refl; some = omega arith }
+scan-told s (Stop p) l m = record { refusal = Misspelt p; says = record { short = l; none = m.none; place = m.place }; number = refl; place = refl; some = omega arith }
 scan-told s (Whole hs) l m =
     subst (λ (ps : Patterns). Told s (of_trees ps)) (sym (ap build (sym m.ordered) ∙ build-back m.tree m.spells.formed)) (tree-told s m.tree l m.spells)
 
@@ -61,7 +61,7 @@ pub told : (s : List ℕ) → Told s (outcome_of s)
 unfolding outcome_of
 told s =
     cases (ltb 1024 (length s)) (λ b. Told s (cond b (Refuses 2 0) (of_scan (scan s (Letters 0 0 1)))))
-    (λ h. record { verdict = Long; says = record { long = ltb-true 1024 (length s) h; empty = refl }; number = refl; place = refl; some = omega arith })
+    (λ h. record { refusal = Long; says = record { long = ltb-true 1024 (length s) h }; number = refl; place = refl; some = omega arith })
     (λ h. scan-told s (scan s (Letters 0 0 1)) (ltb-false 1024 (length s) h) (reading s))
 
 -- ── Accepted, refused ──
@@ -111,40 +111,58 @@ module _ (s : List ℕ) (p : Pattern) (l : length s ≤ 1024) (a : Spells p s) w
 
 -- ── The reading ──
 
--- an answer by the text's outcome
-reading-by : (s : List ℕ) (r : declared.Parsed) (o : Outcome) → outcome_of s ≡ o → number_of r.verdict ≡ number_in o → place_of r.verdict ≡ place_in o → r.table ≡ table_of o → Says s r.verdict r.table → ReadGives s r
-reading-by s r o e n q t a = record { number = n ∙ ap number_in (sym e); place = q ∙ ap place_in (sym e); table = t ∙ ap table_of (sym e); says = a }
-
 -- what is said of a text fixes the answer
-pub says-reading : (s : List ℕ) (v : Verdict) (t : Table) → Says s v t → ReadGives s (record { verdict = v; table = t })
-says-reading s Accepted t a = reading-by s _ (Accepts a.pattern) (spells-accepts s a.pattern a.short a.spells a.few a.shallow) refl refl a.tabled a
-says-reading s Long t a = reading-by s _ (Refuses 2 0) (refuses-long s a.long) refl refl a.empty a
-says-reading s (Misspelt n) t a = reading-by s _ (Refuses 3 n) (refuses-misspelt s n a.short a.none a.place) refl refl a.empty a
-says-reading s Crowded t a = reading-by s _ (Refuses 4 0) (refuses-crowded s a.pattern a.short a.spells a.many) refl refl a.empty a
-says-reading s Deep t a = reading-by s _ (Refuses 5 0) (refuses-deep s a.pattern a.short a.spells a.few a.deep) refl refl a.empty a
+pub says-reading : (s : List ℕ) (r : Result Table Refusal) → Says s r → ReadGives s r
+says-reading s (Ok t) a = record { gives = subst (λ o. Gives o (Ok t)) (sym (spells-accepts s a.pattern a.short a.spells a.few a.shallow)) a.tabled; says = a }
+says-reading s (Err Long) a = record { gives = subst (λ o. Gives o (Err Long)) (sym (refuses-long s a.long)) (refl, refl); says = a }
+says-reading s (Err (Misspelt n)) a = record { gives = subst (λ o. Gives o (Err (Misspelt n))) (sym (refuses-misspelt s n a.short a.none a.place)) (refl, refl); says = a }
+says-reading s (Err Crowded) a = record { gives = subst (λ o. Gives o (Err Crowded)) (sym (refuses-crowded s a.pattern a.short a.spells a.many)) (refl, refl); says = a }
+says-reading s (Err Deep) a = record { gives = subst (λ o. Gives o (Err Deep)) (sym (refuses-deep s a.pattern a.short a.spells a.few a.deep)) (refl, refl); says = a }
 
--- number and place together name a verdict
-pub verdict-unique : (v w : Verdict) → number_of v ≡ number_of w → place_of v ≡ place_of w → v ≡ w
+-- number and place together name a refusal
+pub verdict-unique : (v w : Refusal) → number_of v ≡ number_of w → place_of v ≡ place_of w → v ≡ w
 verdict-unique v w e f = sym (back v) ∙ (ap₂ named e f ∙ back w)
   where
-    named : ℕ → ℕ → Verdict
-    named n q = cond (eqb n 0) Accepted (cond (eqb n 2) Long (cond (eqb n 3) (Misspelt q) (cond (eqb n 4) Crowded Deep)))
+    named : ℕ → ℕ → Refusal
+    named n q = cond (eqb n 2) Long (cond (eqb n 3) (Misspelt q) (cond (eqb n 4) Crowded Deep))
 
-    back : (v : Verdict) → named (number_of v) (place_of v) ≡ v
-    back Accepted = refl
+    back : (v : Refusal) → named (number_of v) (place_of v) ≡ v
     back Long = refl
     back (Misspelt q) = refl
     back Crowded = refl
     back Deep = refl
 
--- so a text has one reading only
-pub reading-unique : (s : List ℕ) (r t : declared.Parsed) → ReadGives s r → ReadGives s t → r ≡ t
-reading-unique s r t a b =
-    let v : r.verdict ≡ t.verdict = verdict-unique r.verdict t.verdict (a.number ∙ sym b.number) (a.place ∙ sym b.place) in
-    λ i. record { verdict = v i; table = (a.table ∙ sym b.table) i }
+-- so an outcome gives one answer only
+gives-unique : (o : Outcome) (r t : Result Table Refusal) → Gives o r → Gives o t → r ≡ t
+gives-unique (Accepts p) (Ok t) (Ok u) a b = ap Ok (a ∙ sym b)
+gives-unique (Accepts p) (Ok t) (Err w) a b = absurd b
+gives-unique (Accepts p) (Err v) r a b = absurd a
+gives-unique (Refuses n q) (Ok t) r a b = absurd a
+gives-unique (Refuses n q) (Err v) (Ok u) a b = absurd b
+gives-unique (Refuses n q) (Err v) (Err w) a b = ap Err (verdict-unique v w (a.0 ∙ sym b.0) (a.1 ∙ sym b.1))
 
--- and what is said of a text fixes the verdict and the table
-pub says-unique : (s : List ℕ) (v w : Verdict) (t u : Table) → Says s v t → Says s w u → (v ≡ w) × (t ≡ u)
-says-unique s v w t u a b =
-    let e = reading-unique s (record { verdict = v; table = t }) (record { verdict = w; table = u }) (says-reading s v t a) (says-reading s w u b) in
-    (ap (λ (r : declared.Parsed). r.verdict) e, ap (λ (r : declared.Parsed). r.table) e)
+-- so a text has one reading only
+pub reading-unique : (s : List ℕ) (r t : Result Table Refusal) → ReadGives s r → ReadGives s t → r ≡ t
+reading-unique s r t a b = gives-unique (outcome_of s) r t a.gives b.gives
+
+-- and what is said of a text fixes the answer
+pub says-unique : (s : List ℕ) (r t : Result Table Refusal) → Says s r → Says s t → r ≡ t
+says-unique s r t a b = reading-unique s r t (says-reading s r a) (says-reading s t b)
+
+-- ── What a caller reads off an answer ──
+
+-- the table of an accepted pattern
+pub read-accepts : (s : List ℕ) (t : Table) → ReadGives s (Ok t) → (p : Pattern) × (outcome_of s ≡ Accepts p) × (t ≡ table p)
+read-accepts s t a = pick (outcome_of s) refl a.gives
+  where
+    pick : (o : Outcome) → outcome_of s ≡ o → Gives o (Ok t) → (p : Pattern) × (outcome_of s ≡ Accepts p) × (t ≡ table p)
+    pick (Accepts p) e g = (p, e, g)
+    pick (Refuses n q) e g = absurd g
+
+-- the outcome of a refusal
+pub read-refuses : (s : List ℕ) (v : Refusal) → ReadGives s (Err v) → outcome_of s ≡ Refuses (number_of v) (place_of v)
+read-refuses s v a = pick (outcome_of s) refl a.gives
+  where
+    pick : (o : Outcome) → outcome_of s ≡ o → Gives o (Err v) → outcome_of s ≡ Refuses (number_of v) (place_of v)
+    pick (Accepts p) e g = absurd g
+    pick (Refuses n q) e g = e ∙ ap₂ Refuses (sym g.0) (sym g.1)

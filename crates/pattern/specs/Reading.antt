@@ -1,13 +1,13 @@
 -- The reading of a text as a definition that computes: measure the text, scan it, build the tree of its symbols, count nodes and depth.
 -- Assumes nothing.
-use Rattle.std.specs.Prelude.{ℕ, zero, suc, ◌≡◌, cond, List, [], ◌∷◌, ltb, length}
+use Rattle.std.specs.Prelude.{ℕ, zero, suc, ◌≡◌, cond, List, [], ◌∷◌, ltb, length, Result, Ok, Err}
 use Rattle.pattern.specs.Kinds.{Symbol, rank}
 use Rattle.pattern.specs.Pattern.{Pattern, Node, Patterns, Nil, Cons, nodes, depth}
 use Rattle.pattern.specs.Automaton.{Scan, Stop, Whole, scan}
 use Rattle.pattern.specs.Answer.{table, no_table, Says, number_of, place_of}
 use Rattle.pattern.specs.declared.State.TheVariants.{Letters}
 use Rattle.pattern.specs.declared.Table.{Table}
-use Rattle.pattern.specs.declared.Parsed.{Parsed}
+use Rattle.pattern.specs.declared.Refusal.{Refusal}
 
 -- ── Symbols in preorder to trees: from the last to the first, each symbol takes its operands off the trees made so far ──
 
@@ -70,9 +70,14 @@ abbrev pub table_of : Outcome → Table
 table_of (Accepts p) = table p
 table_of (Refuses n q) = no_table
 
--- what `read` promises: the verdict of this number and place, of which there is one (`verdict-unique`), the table, and what they say of the text
-pub record ReadGives (s : List ℕ) (r : Parsed) : Type 0 where
-  pub number : number_of r.verdict ≡ number_in (outcome_of s)
-  pub place : place_of r.verdict ≡ place_in (outcome_of s)
-  pub table : r.table ≡ table_of (outcome_of s)
-  pub says : Says s r.verdict r.table
+-- the answer that an outcome gives: its table, or the refusal of its number and place, of which there is one (`verdict-unique`)
+abbrev pub Gives : Outcome → Result Table Refusal → Type 0
+Gives (Accepts p) (Ok t) = t ≡ table p
+Gives (Accepts p) (Err e) = ⊥
+Gives (Refuses n q) (Ok t) = ⊥
+Gives (Refuses n q) (Err e) = (number_of e ≡ n) × (place_of e ≡ q)
+
+-- what `read` promises: the answer of the text's outcome, and what it says of the text
+pub record ReadGives (s : List ℕ) (r : Result Table Refusal) : Type 0 where
+  pub gives : Gives (outcome_of s) r
+  pub says : Says s r

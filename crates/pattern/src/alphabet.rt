@@ -38,23 +38,12 @@ struct Shape {
     operands: usize,
 }
 
-// A byte as a number.
-pub(crate) fn wide(b: u8) -> usize
-    ensures { (result ≡ b) × (result ≤ 255) }
-{
-    b as usize
-}
-
 // The byte at a place of a row's word, commas past its letters.
-fn letter(row: usize, place: usize) -> usize
+fn letter(row: usize, place: usize) -> u8
     requires { row < length kinds }
     ensures { result ≡ letter_at (kind_in row).word place }
 {
-    if place < 4 {
-        wide(WORD[row][place])
-    } else {
-        44
-    }
+    if place < 4 { WORD[row][place] } else { b',' }
 }
 
 // The words of two rows agree in their first letters.
@@ -73,7 +62,7 @@ fn alike(row: usize, other: usize, read: usize) -> bool
 }
 
 // The first row whose word has the row's first letters and then b, a comma for the word's end; KINDS: there is none.
-pub(crate) fn next(row: usize, read: usize, b: usize) -> usize
+pub(crate) fn next(row: usize, read: usize, b: u8) -> usize
     requires { row < length kinds }
     ensures { result ≡ next row read b }
 {

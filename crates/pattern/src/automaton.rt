@@ -1,250 +1,173 @@
-// The automaton: what a byte, and the end of the text, do to a state.
-ghost use Rattle.std.specs.Prelude.{◌≡◌, ◌≤◌};
+// The automaton: what a byte, and the end of the text, do to a state; none where no pattern goes on so.
+ghost use Rattle.std.specs.Prelude.{◌≡◌, ◌≤◌, ◌<◌, length};
 ghost use Rattle.digits.specs.Chart.{chart};
-ghost use Rattle.pattern.specs.Automaton.{number, shut, word_end, letter, first_field, number_end, step};
-ghost use Rattle.pattern.specs.inner.Scanner.{Follow, Bounded, Piece, final, end_of};
+ghost use Rattle.pattern.specs.Kinds.{kinds};
+ghost use Rattle.pattern.specs.Automaton.{next, number, shut, word_end, letter, first_field, with_value, number_end, step};
+ghost use Rattle.pattern.specs.inner.Scanner.{Bounded, Piece, final, end_of};
 
 use super::alphabet::{KINDS, arity, field_count, kind_in, live, low, next};
-use super::{State, Step, Values};
+use super::{Slot, State, Step};
 use digits::Chart;
+use nodes::{NO_NODE, Node};
 
 // Digits of a number, if they start one of the field.
-fn number(kind: usize, field: usize, first: usize, second: usize, value: usize, need: usize) -> Step
-    requires { (value ≤ 1000000) × (field ≤ 2) }
-    ensures { result ≡ number kind field first second value need }
+fn number(slot: Slot, value: usize) -> Option<Step>
+    requires { (value ≤ 1000000) × (slot.field ≤ 2) }
+    ensures { result ≡ number slot value }
 {
-    if live(kind, field, value) {
-        Step::Within(State::Digits {
-            kind,
-            field,
-            first,
-            second,
-            value,
-            need,
-        })
-    } else {
-        Step::Dead
-    }
+    live(slot.kind, slot.field, value).then_some(Step::Within(State::Digits(slot, value)))
 }
 
-// A comma after a whole symbol.
-fn shut(kind: usize, first: usize, second: usize, third: usize, need: usize) -> Step
-    requires { (1 ≤ need) × ((need ≤ 1000000) × (first ≤ 1000000)) }
-    ensures { result ≡ shut kind first second third need }
+// A comma after a whole node.
+fn shut(node: Node, need: usize) -> Option<Step>
+    requires { (1 ≤ need) × ((need ≤ 1000000) × (node.first ≤ 1000000)) }
+    ensures { result ≡ shut node need }
 {
-    let n = need + arity(kind, first);
+    let n = need + arity(node.kind, node.first);
     if n == 1 {
-        return Step::Dead;
+        return None;
     }
-    Step::Closed {
-        kind,
-        first,
-        second,
-        third,
-        next: State::Letters {
+    Some(Step::Closed(
+        node,
+        State::Letters {
             row: 0,
             read: 0,
             need: n - 1,
         },
-    }
+    ))
 }
 
 // A comma after a word, by the kind of symbol that it is.
-fn word_end(kind: usize, need: usize) -> Step
+fn word_end(kind: usize, need: usize) -> Option<Step>
     requires { (1 ≤ need) × (need ≤ 1000000) }
     ensures { result ≡ word_end kind need }
 {
     if field_count(kind) == 0 {
-        return shut(kind, 0, 0, 0, need);
+        return shut(Node { kind, ..NO_NODE }, need);
     }
-    Step::Within(State::Field {
+    Some(Step::Within(State::Field(Slot {
         kind,
         field: 0,
         first: 0,
         second: 0,
         need,
-    })
+    })))
 }
 
-// A letter, or a comma, that leads to a row.
-fn letter(row: usize, read: usize, b: usize, need: usize) -> Step
-    requires { (1 ≤ need) × ((need ≤ 1000000) × (read ≤ 1000000)) }
-    ensures { result ≡ letter row read b need }
+// A letter, or a comma, after the first letters of a row's word.
+fn letter(row: usize, read: usize, b: u8, need: usize) -> Option<Step>
+    requires { (row < length kinds) × ((1 ≤ need) × ((need ≤ 1000000) × (read ≤ 1000000))) }
+    ensures { result ≡ letter (next row read b) read b need }
 {
-    if row < KINDS {
-        if b == 44 {
-            return word_end(kind_in(row), need);
-        }
-        return Step::Within(State::Letters {
-            row,
-            read: read + 1,
-            need,
-        });
+    let row = next(row, read, b);
+    if KINDS <= row {
+        return None;
     }
-    Step::Dead
+    if b == b',' {
+        return word_end(kind_in(row), need);
+    }
+    Some(Step::Within(State::Letters {
+        row,
+        read: read + 1,
+        need,
+    }))
 }
 
-// A symbol's numbers after the field at the place.
-fn with_value(field: usize, first: usize, second: usize, value: usize) -> Values
-    ensures { Follow field first second value result }
+// A symbol's numbers through the one at the place.
+fn with_value(slot: Slot, value: usize) -> Node
+    ensures { result ≡ with_value slot value }
 {
-    if field == 0 {
-        return Values {
+    let kind = slot.kind;
+    let first = slot.first;
+    let second = slot.second;
+    match slot.field {
+        0 => Node {
+            kind,
             first: value,
-            second: 0,
-            third: 0,
-        };
-    }
-    if field == 1 {
-        return Values {
+            ..NO_NODE
+        },
+        1 => Node {
+            kind,
             first,
             second: value,
-            third: 0,
-        };
-    }
-    Values {
-        first,
-        second,
-        third: value,
+            ..NO_NODE
+        },
+        _ => Node {
+            kind,
+            first,
+            second,
+            third: value,
+            ..NO_NODE
+        },
     }
 }
 
 // A comma after a number.
-fn number_end(
-    kind: usize,
-    field: usize,
-    first: usize,
-    second: usize,
-    value: usize,
-    need: usize,
-) -> Step
-    requires { (1 ≤ need) × ((need ≤ 1000000) × ((first_field field first value ≤ 1000000) × (field ≤ 2))) }
-    ensures { result ≡ number_end kind field first second value need }
+fn number_end(slot: Slot, value: usize) -> Option<Step>
+    requires { (1 ≤ slot.need) × ((slot.need ≤ 1000000) × ((first_field slot.field slot.first value ≤ 1000000) × (slot.field ≤ 2))) }
+    ensures { result ≡ number_end slot value }
 {
-    if value < low(kind, field) {
-        return Step::Dead;
+    if value < low(slot.kind, slot.field) {
+        return None;
     }
-    let t = with_value(field, first, second, value);
-    if field + 1 < field_count(kind) {
-        return Step::Within(State::Field {
-            kind,
-            field: field + 1,
-            first: t.first,
-            second: t.second,
-            need,
-        });
+    let node = with_value(slot, value);
+    let field = slot.field + 1;
+    if field < field_count(slot.kind) {
+        return Some(Step::Within(State::Field(Slot {
+            field,
+            first: node.first,
+            second: node.second,
+            ..slot
+        })));
     }
-    shut(kind, t.first, t.second, t.third, need)
+    shut(node, slot.need)
 }
 
 // What a byte does to a state. The piece is the text from the start of the present word or number through the byte; the value of digits is the sum of
 // their entries.
-pub(crate) fn advance(places: &Chart, piece: &[u8], s: State, b: usize) -> Step
-    requires { (places.now ≡ chart) × Bounded 1000000 s × (b ≤ 255) × Piece s b piece.now }
+pub(crate) fn advance(places: &Chart, piece: &[u8], s: State, b: u8) -> Option<Step>
+    requires { (places.now ≡ chart) × Bounded 1000000 s × Piece s b piece.now }
     ensures { result ≡ step s b }
 {
     match s {
-        State::Letters { row, read, need } => letter(next(row, read, b), read, b, need),
-        State::Field {
-            kind,
-            field,
-            first,
-            second,
-            need,
-        } => {
-            if b < 48 {
-                return Step::Dead;
+        State::Letters { row, read, need } => letter(row, read, b, need),
+        State::Field(slot) => {
+            if !b.is_ascii_digit() {
+                return None;
             }
-            if 57 < b {
-                return Step::Dead;
-            }
-            number(kind, field, first, second, digits::sum(places, piece), need)
+            number(slot, digits::sum(places, piece))
         }
-        State::Digits {
-            kind,
-            field,
-            first,
-            second,
-            value,
-            need,
-        } => {
-            if b == 44 {
-                return number_end(kind, field, first, second, value, need);
-            }
-            if b < 48 {
-                return Step::Dead;
-            }
-            if 57 < b {
-                return Step::Dead;
-            }
-            if value == 0 {
-                return Step::Dead;
+        State::Digits(slot, value) => {
+            if b == b',' {
+                return number_end(slot, value);
             }
             // no number has a sixth digit, nor the chart an entry for it
-            if 5 < piece.len() {
-                return Step::Dead;
+            if !b.is_ascii_digit() || value == 0 || 5 < piece.len() {
+                return None;
             }
-            number(kind, field, first, second, digits::sum(places, piece), need)
+            number(slot, digits::sum(places, piece))
         }
     }
 }
 
 // A symbol that ends the text.
-fn whole(kind: usize, first: usize, second: usize, third: usize, need: usize) -> Step
-    requires { (need ≤ 1000000) × (first ≤ 1000000) }
-    ensures { result ≡ final kind first second third need }
+fn whole(node: Node, need: usize) -> Option<Node>
+    requires { (need ≤ 1000000) × (node.first ≤ 1000000) }
+    ensures { result ≡ final node need }
 {
-    if need + arity(kind, first) == 1 {
-        Step::Closed {
-            kind,
-            first,
-            second,
-            third,
-            next: State::Letters {
-                row: 0,
-                read: 0,
-                need: 0,
-            },
-        }
-    } else {
-        Step::Dead
-    }
+    (need + arity(node.kind, node.first) == 1).then_some(node)
 }
 
-// What the end of the text does to a state.
-pub(crate) fn last(s: State) -> Step
+// What the end of the text makes of a state.
+pub(crate) fn last(s: State) -> Option<Node>
     requires { Bounded 1000000 s }
     ensures { result ≡ end_of s }
 {
-    match s {
-        State::Letters {
-            row: _,
-            read: _,
-            need: _,
-        } => Step::Dead,
-        State::Field {
-            kind: _,
-            field: _,
-            first: _,
-            second: _,
-            need: _,
-        } => Step::Dead,
-        State::Digits {
-            kind,
-            field,
-            first,
-            second,
-            value,
-            need,
-        } => {
-            if value < low(kind, field) {
-                return Step::Dead;
-            }
-            if field + 1 < field_count(kind) {
-                return Step::Dead;
-            }
-            let t = with_value(field, first, second, value);
-            whole(kind, t.first, t.second, t.third, need)
-        }
+    let State::Digits(slot, value) = s else {
+        return None;
+    };
+    if value < low(slot.kind, slot.field) || slot.field + 1 < field_count(slot.kind) {
+        return None;
     }
+    whole(with_value(slot, value), slot.need)
 }

@@ -1,59 +1,32 @@
 // The scan of a text: its symbols in preorder, or the place where no pattern goes on.
-ghost use Rattle.std.specs.Prelude.{◌≡◌, false, ◌≤◌, length};
+ghost use Rattle.std.specs.Prelude.{◌≡◌, ◌≤◌, length};
 ghost use Rattle.pattern.specs.Automaton.{scan};
-ghost use Rattle.pattern.specs.inner.Scanner.{Tells, put_at, start_after};
+ghost use Rattle.pattern.specs.inner.Scanner.{Tells, put};
 
-use super::alphabet::wide;
 use super::automaton::{advance, last};
-use super::{Scanned, State, Step};
-use nodes::NODES;
+use super::{Refusal, State, Step, Table};
+use nodes::{NO_NODE, NODES, Node};
 
-// No pattern goes on past the place.
-fn stopped(place: usize) -> Scanned
-    ensures { (result.whole ≡ false) × (result.place ≡ place) }
+// A node more; past NODES of them they are counted only.
+fn put(table: &mut Table, node: Node)
+    requires { table.old.count ≤ 1024 }
+    ensures { table.new ≡ put table.old node }
 {
-    let kind = [0usize; NODES];
-    let first = [0usize; NODES];
-    let second = [0usize; NODES];
-    let third = [0usize; NODES];
-    Scanned {
-        whole: false,
-        place,
-        count: 0,
-        kind,
-        first,
-        second,
-        third,
+    if table.count < NODES {
+        table.rows[table.count] = node;
     }
+    table.count += 1;
 }
 
-// The array with v at i, if it has such a place.
-fn put(a: &mut [usize; NODES], i: usize, v: usize)
-    ensures { a.new ≡ put_at a.old i v }
-{
-    if i < NODES {
-        a[i] = v;
-    }
-}
-
-// Where the word or number of the byte after byte i, which is b, starts: past a comma, else where the present one does.
-fn start_after(from: usize, i: usize, b: usize) -> usize
-    requires { i ≤ 1024 }
-    ensures { result ≡ start_after from i b }
-{
-    if b == 44 { i + 1 } else { from }
-}
-
-// The symbols of a text, or the place where it stops.
-pub(crate) fn scan(text: &[u8]) -> Scanned
+// The symbols of a text as nodes, the sizes of their subtrees not known yet; or the place where it stops.
+pub(crate) fn scan(text: &[u8]) -> Result<Table, Refusal>
     requires { length text.now ≤ 1024 }
     ensures { Tells (scan text.now (State.Letters 0 0 1)) result }
 {
-    let mut kind = [0usize; NODES];
-    let mut first = [0usize; NODES];
-    let mut second = [0usize; NODES];
-    let mut third = [0usize; NODES];
-    let mut count: usize = 0;
+    let mut table = Table {
+        count: 0,
+        rows: [NO_NODE; NODES],
+    };
     let mut s = State::Letters {
         row: 0,
         read: 0,
@@ -61,61 +34,21 @@ pub(crate) fn scan(text: &[u8]) -> Scanned
     };
     // the chart is copied here, once for a text
     let places = digits::chart();
-    let mut from: usize = 0;
-    let mut i = 0;
-    while i < text.len() {
-        let b = wide(text[i]);
+    let mut from = 0;
+    for (i, b) in text.iter().enumerate() {
         let end = i + 1;
-        match advance(&places, &text[from..end], s, b) {
-            Step::Dead => {
-                return stopped(i);
-            }
-            Step::Within(t) => {
+        match advance(&places, &text[from..end], s, *b).ok_or(Refusal::Misspelt(i))? {
+            Step::Within(t) => s = t,
+            Step::Closed(node, t) => {
+                put(&mut table, node);
                 s = t;
-                from = start_after(from, i, b);
-                i += 1;
-            }
-            Step::Closed {
-                kind: k,
-                first: a,
-                second: c,
-                third: d,
-                next: t,
-            } => {
-                put(&mut kind, count, k);
-                put(&mut first, count, a);
-                put(&mut second, count, c);
-                put(&mut third, count, d);
-                count += 1;
-                s = t;
-                from = end;
-                i += 1;
             }
         }
-    }
-    match last(s) {
-        Step::Dead => stopped(i),
-        Step::Within(_) => stopped(i),
-        Step::Closed {
-            kind: k,
-            first: a,
-            second: c,
-            third: d,
-            next: _,
-        } => {
-            put(&mut kind, count, k);
-            put(&mut first, count, a);
-            put(&mut second, count, c);
-            put(&mut third, count, d);
-            Scanned {
-                whole: true,
-                place: 0,
-                count: count + 1,
-                kind,
-                first,
-                second,
-                third,
-            }
+        if *b == b',' {
+            from = end;
         }
     }
+    let node = last(s).ok_or(Refusal::Misspelt(text.len()))?;
+    put(&mut table, node);
+    Ok(table)
 }

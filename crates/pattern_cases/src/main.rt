@@ -5,105 +5,47 @@
 #![tactic(auto)]
 
 use input::read_whole;
-use nodes::TABLE;
-use pattern::Verdict;
+use nodes::{NODES, NO_NODE};
+use pattern::Refusal;
 use std::io;
 
-// The last decimal digit.
-fn digit(n: usize) -> u8 {
-    (n % 10 + 48) as u8
-}
-
-// A number in five digits, and the byte after it.
-fn field(rt: &impl Print, n: usize, after: u8) -> io::Result<()> {
-    let line = [
-        digit(n / 10000),
-        digit(n / 1000),
-        digit(n / 100),
-        digit(n / 10),
-        digit(n),
-        after,
-    ];
-    rt.write_all(&line)
-}
-
-fn show(rt: &impl Print, letter: u8, number: u8, value: usize) -> io::Result<()> {
-    let line = [letter, 44u8, number, 44u8];
-    rt.write_all(&line)?;
-    field(rt, value, 10u8)
-}
-
 fn answer(rt: &impl Print, text: &[u8]) -> io::Result<()> {
-    let r = pattern::read(text);
-    let v = r.verdict;
-    match v {
-        Verdict::Accepted => show(rt, b'A', b'0', r.table.count),
-        Verdict::Long => show(rt, b'R', b'2', 0),
-        Verdict::Misspelt(p) => show(rt, b'R', b'3', p),
-        Verdict::Crowded => show(rt, b'R', b'4', 0),
-        Verdict::Deep => show(rt, b'R', b'5', 0),
+    match pattern::read(text) {
+        Ok(table) => {
+            let count = table.count;
+            println!(rt; "A,0,{count:05}")
+        }
+        Err(Refusal::Long) => println!(rt; "R,2,00000"),
+        Err(Refusal::Misspelt(place)) => println!(rt; "R,3,{place:05}"),
+        Err(Refusal::Crowded) => println!(rt; "R,4,00000"),
+        Err(Refusal::Deep) => println!(rt; "R,5,00000"),
     }
 }
 
-// The entries of node v: kind, size, first and second number.
-fn row(rt: &impl Print, rows: [usize; TABLE], v: usize) -> io::Result<()> {
-    if v < 32 {
-        field(rt, rows[v], 44u8)?;
-        field(rt, rows[32 + v], 44u8)?;
-        field(rt, rows[64 + v], 44u8)?;
-        field(rt, rows[96 + v], 10u8)?;
-    }
-    Ok(())
-}
-
-// A table: its nodes, and the entry past them.
+// A table: of each node, and of the entry past them, the kind, size, first and second number. A refused text has no nodes.
 fn entries(rt: &impl Print, text: &[u8]) -> io::Result<()> {
-    let r = pattern::read(text);
-    let rows = r.table.rows;
-    let mut v = 0;
-    while v < 14 {
-        row(rt, rows, v)?;
-        v += 1;
+    let rows = match pattern::read(text) {
+        Ok(table) => table.rows,
+        Err(_) => [NO_NODE; NODES],
+    };
+    for node in &rows[..14] {
+        let (kind, size, first, second) = (node.kind, node.size, node.first, node.second);
+        println!(rt; "{kind:05},{size:05},{first:05},{second:05}")?;
     }
     Ok(())
 }
 
-// The place of the next semicolon; the end where there is none.
-fn stop(input: &[u8], at: usize) -> usize {
-    let mut i = at;
-    while i < input.len() {
-        if input[i] == 59 {
-            return i;
-        }
-        i += 1;
-    }
-    i
-}
-
-// The bytes from one place to another; none where there are fewer.
-fn part(input: &[u8], from: usize, to: usize) -> &[u8] {
-    if to < from {
-        return &input[..0];
-    }
-    if input.len() < to {
-        return &input[..0];
-    }
-    &input[from..to]
-}
-
-// Every pattern: fewer than there are bytes.
+// Every pattern, of the last one the table.
 fn patterns(rt: &impl Print, input: &[u8]) -> io::Result<()> {
-    let mut at = 0;
-    let mut left = input.len();
-    while 1 < left {
-        let to = stop(input, at);
-        let text = part(input, at, to);
-        if input.len() - 2 <= to {
-            return entries(rt, text);
+    let mut left = input;
+    while let Some(to) = left.iter().position(|b| *b == b';') {
+        let text = &left[..to];
+        left = left.get(to + 2..).unwrap_or(&[]);
+        if left.is_empty() {
+            entries(rt, text)?;
+        } else {
+            answer(rt, text)?;
         }
-        answer(rt, text)?;
-        at = to + 2;
-        left -= 1;
     }
     Ok(())
 }

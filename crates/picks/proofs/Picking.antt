@@ -12,15 +12,15 @@ use native.Mathlib.Omega.{arith}
 use Rattle.basics.proofs.Basics.{cases, true-and, le-or-lt}
 use Rattle.stretches.specs.Stretch.{Stretch, st, In}
 use Rattle.stretches.specs.Front as fronts
-use Rattle.stretches.specs.Front.{None, At, head_of, nth}
+use Rattle.stretches.specs.Front.{None, Some, head_of, nth}
 use Rattle.stretches.specs.Filling.{flat, pairs_in, written, filled}
 use Rattle.stretches.specs.Lent.{pairs}
 use Rattle.stretches.proofs.Lists.{in-keep}
 use Rattle.stretches.proofs.Filling.{length-flat, pairs-flat, Partly, partly_more, partly-done, partly-all}
 use Rattle.meaning.specs.Meaning.{table_in}
-use Rattle.meaning.specs.Refusals.{Refusal, refused, accepted, bad_count, refusal, pick_refusal}
+use Rattle.meaning.specs.Refusals.{Signal, refused, accepted, bad_count, refusal, pick_refusal}
 use Rattle.meaning.specs.Finding.{list_of}
-use Rattle.meaning.specs.declared.Reply.{Reply}
+use Rattle.meaning.specs.Replies.{Reply}
 use Rattle.meaning.proofs.Finding.{good-pattern, accepted-number, pick-as, pick-count, pick-accepted}
 use Rattle.acceptance.specs.declared.Readied.{Readied}
 use Rattle.acceptance.specs.Readied.{readied}
@@ -38,14 +38,14 @@ use Rattle.picks.proofs.Passes.{answers-lie}
 -- the stretch of a front
 abbrev stretch-in : Stretch → fronts.Front → Stretch
 stretch-in d None = d
-stretch-in d (At x) = x
+stretch-in d (Some x) = x
 
 abbrev is_some : fronts.Front → ℕ
 is_some None = 0
-is_some (At x) = 1
+is_some (Some x) = 1
 
 -- the shortest of a list is one of it
-of-in : (q : List Stretch) (x : Stretch) → shortest_of q ≡ At x → In x.start x.end q
+of-in : (q : List Stretch) (x : Stretch) → shortest_of q ≡ Some x → In x.start x.end q
 of-in [] x e = let z : ◌≡◌ {A = ℕ} 0 1 = ap is_some e in absurd (omega arith)
 of-in (y ∷ q) x e = let z : shortest y q ≡ x = ap (stretch-in x) e in subst (λ (w : Stretch). In w.start w.end (y ∷ q)) z (shortest-in y q)
 
@@ -90,7 +90,7 @@ module _ (src : Source) (rows : List ℕ) (good : Good src rows) (k : ℕ) (cell
         shown : r ≡ front (nth all n)
         shown = e ∙ ap front (ap (λ (ps : List Stretch). shortest_of (remaining ps l)) held ∙ sym number)
 
-        low : (x : Stretch) → nth all n ≡ At x → x.start < 65536
+        low : (x : Stretch) → nth all n ≡ Some x → x.start < 65536
         low x i =
             let m = in-keep (clear (picks_of n l)) l x.start x.end (of-in (remaining (picks_of n l) l) x (sym number ∙ i)) in
             let z = lying x.start x.end m.0 in
@@ -111,7 +111,7 @@ module _ (src : Source) (rows : List ℕ) (good : Good src rows) (k : ℕ) (cell
             go : (d : List Stretch) → drop n all ≡ d → Partly all (n + 1) cells₀ (set (set cells (2 * n) r.start) (2 * n + 1) r.end)
             go [] i = let z : r.start ≡ 65536 = ap (λ (f : Front). f.start) (shown ∙ ap (λ (y : List Stretch). front (head_of y)) i) in absurd (omega arith)
             go (x ∷ d) i =
-                let z : r ≡ front (At x) = shown ∙ ap (λ (y : List Stretch). front (head_of y)) i in
+                let z : r ≡ front (Some x) = shown ∙ ap (λ (y : List Stretch). front (head_of y)) i in
                 partly_more all n cells₀ cells p (st r.start r.end) d (i ∙ ap (λ (f : Front). st f.start f.end ∷ d) (sym z)) fits
 
 -- ── The call ──
@@ -136,7 +136,7 @@ module _ (text log : List ℕ) (k : ℕ) (cells : List ℕ) where
   Gives number place n cells' = (◌≡◌ {A = Reply} (record { number = number; place = place; count = n }) (picking text log k cells)) × (cells' ≡ filled (picks_in text log k) 0 cells)
 
   -- a refused call writes nothing
-  refused-call : (x : Refusal) → pick_refusal text log k ≡ x → eqb x.number 0 ≡ false → Gives x.number x.place 0 cells
+  refused-call : (x : Signal) → pick_refusal text log k ≡ x → eqb x.number 0 ≡ false → Gives x.number x.place 0 cells
   unfolding picks_in
   refused-call x e n = (
     λ i. record { number = (sym e i).number; place = (sym e i).place; count = sym (ap length nothing) i },
@@ -144,7 +144,7 @@ module _ (text log : List ℕ) (k : ℕ) (cells : List ℕ) where
   )
     where
       empty : picks_in text log k ≡ []
-      empty = ap (λ b. cond b (picks_of k (list_of text log)) []) (ap (λ (y : Refusal). eqb y.number 0) e ∙ n)
+      empty = ap (λ b. cond b (picks_of k (list_of text log)) []) (ap (λ (y : Signal). eqb y.number 0) e ∙ n)
 
       none : (j : ℕ) → ◌≡◌ {A = List Stretch} (take j []) []
       none zero = refl
@@ -168,7 +168,7 @@ module _ (text log : List ℕ) (k : ℕ) (cells : List ℕ) where
           go true true i j h =
               let z : r.number ≡ 0 = eqb-true r.number 0 i in
               let a = accepted-number text log (sym number_is ∙ z) in
-              let p : r.place ≡ 0 = ap (λ (x : Readied). x.place) e ∙ ap (λ (x : Refusal). x.place) (good-pattern text log a.tree a.brief a.reads) in
+              let p : r.place ≡ 0 = ap (λ (x : Readied). x.place) e ∙ ap (λ (x : Signal). x.place) (good-pattern text log a.tree a.brief a.reads) in
               subst (λ (x : ℕ). Gives x r.place 0 cells) (sym h) (subst (λ (x : ℕ). Gives 10 x 0 cells) (sym p) (refused-call (refused 10 0) (pick-count text log k true (given i) j) refl))
           go true false i j h = absurd (bad h)
           go false b i j h =
@@ -192,9 +192,9 @@ module _ (text log : List ℕ) (k : ℕ) (cells : List ℕ) where
             let a : pick_refusal text log k ≡ accepted = pick-count text log k false (given (eq-eqb r.number 0 z)) pick_goes.1 in
             let l : table_in r.rows log ≡ list_of text log = ap (λ (x : Readied). table_in x.rows log) e ∙ table-list text log (sym number_is ∙ z) in
             let ps : picks_of k (table_in r.rows log) ≡ picks_in text log k =
-            ap (picks_of k) l ∙ sym (ap (λ (y : Refusal). cond (eqb y.number 0) (picks_of k (list_of text log)) []) a) in
+            ap (picks_of k) l ∙ sym (ap (λ (y : Signal). cond (eqb y.number 0) (picks_of k (list_of text log)) []) a) in
             let w : written (picks_of k (table_in r.rows log)) 0 cells ≡ written (picks_in text log k) 0 cells = ap (λ (x : List Stretch). written x 0 cells) ps in
-            ((λ i. record { number = (ok ∙ ap (λ (y : Refusal). y.number) (sym a)) i; place = (sym a i).place; count = (g.0 ∙ ap length w) i }), g.1 ∙ ap (λ (x : List Stretch). filled x 0 cells) ps)
+            ((λ i. record { number = (ok ∙ ap (λ (y : Signal). y.number) (sym a)) i; place = (sym a i).place; count = (g.0 ∙ ap length w) i }), g.1 ∙ ap (λ (x : List Stretch). filled x 0 cells) ps)
 
         -- and the log is not too long
         pub pick-brief : length log ≤ 61440

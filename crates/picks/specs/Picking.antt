@@ -4,7 +4,7 @@ use Rattle.stretches.specs.Stretch.{Stretch}
 use Rattle.stretches.specs.Filling.{written}
 use Rattle.meaning.specs.Refusals.{pick_refusal}
 use Rattle.meaning.specs.Finding.{list_of}
-use Rattle.meaning.specs.declared.Reply.{Reply}
+use Rattle.meaning.specs.Replies.{Reply}
 use Rattle.picks.specs.Picks.{picks_of}
 
 -- up to k picks of the answers; of a refused call, nothing

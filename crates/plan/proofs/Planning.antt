@@ -11,7 +11,8 @@ use lib.Seq.{take_at, drop_at, drop-drop, length-take-le}
 use lib.Dec.{leb, eqb}
 use borrow.Author.Tests.{le-leb, lt-ltb, leb-true, eqb-true, eqb-false, not-true, not-false}
 use Rattle.basics.proofs.Basics.{cases, true-or-false, true-and, and-true, or-false, le-or-lt}
-use Rattle.stretches.specs.Stretch.{Stretch, st, Fine, marks}
+use Rattle.stretches.specs.declared.Stretch.{Stretch}
+use Rattle.stretches.specs.Stretch.{st, Fine, marks}
 use Rattle.stretches.specs.Operators.{operator_of, apply}
 use Rattle.stretches.specs.Table.{kind_at, size_at, first_at, second_at, leaf_kind, stop_of, Given, list_at}
 use Rattle.stretches.specs.inner.Operands.{operands_of}
@@ -36,6 +37,7 @@ use Rattle.folding.proofs.FoldLaws.{Single, fold-lists, fold-good}
 use Rattle.leaves.specs.Leaves.{held, number_in, Gathered, are, leaves_of}
 use Rattle.marking.specs.Rows.{leaf_hits, rows_from, rows_then, marked, sound_marked}
 use Rattle.plan.specs.Plan.{width_of, plan_node, planned_to, planned, sound_words, prepared, prepared_sound}
+use Rattle.plan.specs.Marks.{Marks}
 use Rattle.plan.specs.inner.Room.{Roomy}
 use Rattle.leaves.proofs.Gathering.{leaf-few, leaf-found, leaf-is}
 use Rattle.marking.proofs.Marking.{then-length}
@@ -329,22 +331,22 @@ module _ (rows log : List ℕ) (w : ℕ) (words sound : List ℕ) (h : Roomy row
     sound-again = sym (ap length (take_at kept (drop n sound) n kept-length) ∙ kept-length)
 
     -- every node's list
-    pub machine-lists : Good (source words' [] read) t × ((v : ℕ) → list_over (source words' [] read) t v ≡ list_at (over_table rows (says log)) rows v)
-    machine-lists =
+    pub machine-marks : Marks rows log (source words' [] read) t
+    machine-marks =
         let lines : length (says log) ≤ 64 * w = omega (arith, h.1) in
         let narrow : w ≤ 1024 = omega (arith, h.2) in
         let room = room-enough rows w (length words) h.3 in
         let fits = sym sound-room ∙ e.0 in
         let made : Source = source (prepared rows log w words).words [] (sound_marked (says log) (take n sound)) in
         let same : source words' [] read ≡ made =
-        ap₂ (λ (x y : List ℕ). source x [] y) ew (take_at kept (drop n sound) n kept-length ∙ ek ∙ sound-made rows log w words (take n sound) h.0 narrow lines room fits) in (
-          subst (λ (x : Source). Good x t) (sym same) (subst (Good made) (sym et) (prepared-good rows log w words (take n sound) h.0 narrow lines room fits)),
-          λ v. ap₂ (λ (x : Source) (y : List ℕ). list_over x y v) same et ∙ prepared-lists rows log w words (take n sound) h.0 narrow lines room fits v,
-        )
+        ap₂ (λ (x y : List ℕ). source x [] y) ew (take_at kept (drop n sound) n kept-length ∙ ek ∙ sound-made rows log w words (take n sound) h.0 narrow lines room fits) in record {
+          good = subst (λ (x : Source). Good x t) (sym same) (subst (Good made) (sym et) (prepared-good rows log w words (take n sound) h.0 narrow lines room fits));
+          lists = λ v. ap₂ (λ (x : Source) (y : List ℕ). list_over x y v) same et ∙ prepared-lists rows log w words (take n sound) h.0 narrow lines room fits v;
+        }
 
-    -- the first node's, which is the table's
-    pub machine-list : Good (source words' [] read) t × (list_over (source words' [] read) t 0 ≡ table_in rows log)
-    machine-list = let m = machine-lists in (m.0, m.1 0 ∙ sym (table-in rows log))
+-- the first node's list is the table's
+pub marks-first : {rows log : List ℕ} {src : Source} {t : List ℕ} → Marks rows log src t → list_over src t 0 ≡ table_in rows log
+marks-first {rows} {log} m = m.lists 0 ∙ sym (table-in rows log)
 
 -- a log that is not too long has rows of at most 960 words
 pub short-width : (log : List ℕ) (w : ℕ) → w ≡ width_of log → length log ≤ 61440 → w ≤ 960

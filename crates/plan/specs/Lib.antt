@@ -1,2 +1,3 @@
 pub mod Plan
+pub mod Marks
 pub mod inner

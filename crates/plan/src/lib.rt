@@ -2,6 +2,8 @@
 // rows and leaves are as `leaves` has them, words as `marking` has them.
 #![tactic(auto)]
 
+mod room;
+
 ghost use Rattle.std.specs.Prelude.{◌≡◌, ◌+◌, ◌≤◌, ◌<◌};
 ghost use Rattle.plan.specs.Plan.{width_of, plan_node, planned, has_max, sound_words, prepared, prepared_sound};
 
@@ -9,6 +11,8 @@ use leaves::{CELLS, find, gather};
 use marking::mark;
 use marks::{WIDEST, fit};
 use nodes::{FIRST, MARKS, MAX, NODES, SECOND, TABLE, is_leaf};
+
+pub use room::with_marks;
 
 // The words of a row in a log of few lines, and of all rows then; and of all rows in any log.
 pub const FEW: usize = 128;

@@ -1,16 +1,12 @@
--- Bytes stored one after the other from a place on: joined, begun from the last, and as a whole from place 0.
+-- Bytes stored one after the other from a place on: joined, and as a whole from place 0.
 -- Assumes nothing.
 use Prim.Native.Nat.{ℕ, suc, ◌+◌, ◌≤◌, ◌<◌}
 use mathlib.Core.Path.{◌≡◌, refl, sym, ap, ap₂, ◌∙◌}
-use mathlib.Core.Logic.{◌≢◌}
 use mathlib.Core.List.{List, [], ◌∷◌, ◌++◌}
-use mathlib.Core.Bool.{Bool}
 use lib.ListN.{length, set, take, drop}
-use lib.Seq.{sets, sets-eq, set_comm, take_at}
-use lib.Dec.{leb}
-use borrow.Author.Tests.{le-leb, lt-leb, leb-true, leb-false}
+use lib.Seq.{sets, sets-eq, take_at}
+use borrow.Author.Tests.{le-leb, lt-leb}
 use native.Mathlib.Omega.{arith}
-use Rattle.basics.proofs.Basics.{cases}
 use Rattle.print.specs.Print.{written_over, bytes_written, Writes}
 
 -- what is stored behind a first part
@@ -19,19 +15,6 @@ sets-append [] b l i = let z : i + 0 ≡ i = omega arith in ap (λ (k : ℕ). se
 sets-append (x ∷ a) b l i =
     let z : i + suc (length a) ≡ suc i + length a = omega arith in
     ap (λ (k : ℕ). sets (sets (set l i x) (suc i) a) k b) z ∙ sets-append a b (set l i x) (suc i)
-
--- the last byte may go first
-pub sets_last : (a l : List ℕ) (i d : ℕ) → sets (set l (i + length a) d) i a ≡ sets l i (a ++ (d ∷ []))
-sets_last [] l i d = let z : i + 0 ≡ i = omega arith in ap (λ (k : ℕ). set l k d) z
-sets_last (x ∷ a) l i d =
-    let z : i + suc (length a) ≡ suc i + length a = omega arith in
-    let w : i + suc (length a) ≢ i = λ e. omega (arith, e) in
-    ap (λ (m : List ℕ). sets m (suc i) a) (set_comm l (i + suc (length a)) i d x w ∙ ap (λ (k : ℕ). set (set l i x) k d) z)
-    ∙ sets_last a (set l i x) (suc i) d
-
--- two tests, of which each holds exactly where the other does
-pub leb-beside : (a b x y : ℕ) → a + y ≡ b + x → leb a b ≡ leb x y
-leb-beside a b x y e = cases (leb x y) (λ (t : Bool). leb a b ≡ t) (λ p. le-leb a b (omega (arith, leb-true x y p))) (λ p. lt-leb a b (omega (arith, leb-false x y p)))
 
 -- a sheet that fits
 pub laid-fits : (s out : List ℕ) → length s ≤ length out → Writes s out (length s) (sets out 0 s)

@@ -1,113 +1,96 @@
--- The turns of `count`: n lines are counted; from there on stand the bits of w, so many as room says, and those of the later words. Assumes nothing.
-use Prim.Native.Nat.{ℕ, suc, ◌+◌, ◌-◌, ◌*◌, ◌/◌, ◌%◌, ◌^◌, ◌≤◌, ◌<◌}
-use mathlib.Core.Path.{◌≡◌, sym, ap, ap₂, ◌∙◌}
-use mathlib.Core.Bool.{Bool, false}
-use mathlib.Core.List.{List, [], ◌++◌}
-use native.Mathlib.Omega.{arith}
-use lib.ListN.{length, get_or, take, drop, drop_of_length-le}
-use lib.Seq.{take-nil, take-append-add, take-append-le}
-use lib.Pow.{shr_lt}
-use lib.Count.{ones, ones-le}
-use Rattle.marks.specs.Row.{bits, flags, lies, row, trues, mark_count}
-use Rattle.marks.proofs.Counts.{trues-append}
+-- The marks of words, and of the first lines of words. Assumes nothing.
+use Rattle.std.proofs.Common.{◌≡◌, ℕ, suc, ◌+◌, ◌-◌, ◌*◌, ◌/◌, ◌%◌, ◌^◌, ◌<◌, ◌≤◌, Bool, List, [], ◌∷◌, ◌++◌, length, get_or, take, drop, refl, sym, ap, ap₂, ◌∙◌, arith, sum_by}
+use lib.ListN.{take-append-drop, length-take}
+use lib.Seq.{take-append-add, take-append-le, take_all, take-nil, length-take-le}
+use native.Mathlib.Nat.{div-one}
+use lib.Count.{ones}
+use lib.Pow.{pow_mono}
+use Rattle.std.proofs.lemmas.List.Sums.{sum_by-cons}
+use Rattle.marks.specs.Row.{bits, flags, trues, mark_count}
+use Rattle.row_search.specs.inner.Opened.{Opened}
 use Rattle.marks.proofs.Bits.{length-bits, bits_below, trues-bits, trues-all, ones_low}
-use Rattle.marks.proofs.Flags.{open-flags, next-flags, past-flags}
-use Rattle.marks.proofs.Rows.{Within, row_words, row-none, row-length, words-of-row, word-of-row}
+use Rattle.marks.proofs.Counts.{trues-append, trues_most}
+use Rattle.marks.proofs.Flags.{length-flags, flags-append, next-flags, open-flags}
 
-pub trues-nil : (n : ℕ) → trues (take n []) ≡ 0
-unfolding trues
-trues-nil n = ap trues (take-nil n)
+-- of words, word by word
+pub trues-words : (ws : List ℕ) → sum_by (λ w. trues (bits 64 w)) ws ≡ trues (flags ws)
+unfolding flags trues
+trues-words [] = refl
+trues-words (w ∷ ws) = omega (arith, sum_by-cons (λ v. trues (bits 64 v)) w ws, trues-words ws, trues-append (bits 64 w) (flags ws))
+
+pub trues-few : (ws : List ℕ) → sum_by (λ w. trues (bits 64 w)) ws ≤ 64 * length ws
+trues-few ws = omega (arith, trues-words ws, trues_most (flags ws), length-flags ws)
 
 -- a word wholly among the lines to count
-whole : (room left w : ℕ) (rest : List Bool) → room ≤ left → w < 2 ^ room → trues (take (suc left) (bits room w ++ rest)) ≡ ones w + trues (take (suc (left - room)) rest)
-whole room left w rest h l =
-    let z : suc left ≡ length (bits room w) + suc (left - room) = omega (arith, length-bits room w) in
-    ap (λ (x : ℕ). trues (take x (bits room w ++ rest))) z
-    ∙ ap trues (take-append-add (bits room w) rest (suc (left - room)))
-    ∙ trues-append (bits room w) (take (suc (left - room)) rest)
-    ∙ ap (λ (x : ℕ). x + trues (take (suc (left - room)) rest)) (trues-all room w l)
+pub whole : (d n w : ℕ) (rest : List Bool) → d ≤ n → trues (take (suc n) (bits d w ++ rest)) ≡ trues (bits d w) + trues (take (suc (n - d)) rest)
+whole d n w rest h =
+    let z : suc n ≡ length (bits d w) + suc (n - d) = omega (arith, length-bits d w) in
+    ap (λ (x : ℕ). trues (take x (bits d w ++ rest))) z ∙ ap trues (take-append-add (bits d w) rest (suc (n - d))) ∙ trues-append (bits d w) (take (suc (n - d)) rest)
 
 -- the word with the last of them
-part : (room left w : ℕ) (rest : List Bool) → left < room → room ≤ 64 → trues (take (suc left) (bits room w ++ rest)) ≡ ones ((w * 2 ^ (63 - left)) % 2 ^ 64)
-part room left w rest h l =
-    let z : suc left + (63 - left) ≡ 64 = omega arith in
-    ap trues (take-append-le (suc left) (bits room w) rest (omega (arith, length-bits room w)) ∙ bits_below (suc left) room w (omega arith))
-    ∙ trues-bits (suc left) w ∙ sym (ones_low (63 - left) (suc left) w) ∙ ap (λ (x : ℕ). ones ((w * 2 ^ (63 - left)) % 2 ^ x)) z
+pub part : (d n w : ℕ) (rest : List Bool) → n < d → d ≤ 64 → trues (take (suc n) (bits d w ++ rest)) ≡ trues (bits 64 ((w * 2 ^ (63 - n)) % 2 ^ 64))
+part d n w rest h l =
+    let z : suc n + (63 - n) ≡ 64 = omega arith in
+    ap trues (take-append-le (suc n) (bits d w) rest (omega (arith, length-bits d w)) ∙ bits_below (suc n) d w (omega arith))
+    ∙ trues-bits (suc n) w ∙ sym (ones_low (63 - n) (suc n) w) ∙ ap (λ (x : ℕ). ones ((w * 2 ^ (63 - n)) % 2 ^ x)) z
+    ∙ sym (trues-all 64 ((w * 2 ^ (63 - n)) % 2 ^ 64) (omega arith))
 
--- a place in a row: word k has been read down to w, which holds room of its bits, and left lines follow the next one to count
-pub record Counted (words : List ℕ) (at width s e k n room left w : ℕ) : Type 0 where
-  pub fits : Within words at width
-  pub here : k < width
-  pub some : 0 < room
-  pub most : room ≤ 64
-  pub few : n + room ≤ 64 * suc k
-  pub word : w < 2 ^ room
-  pub sum : mark_count (row words at width) s e ≡ n + trues (take (suc left) (bits room w ++ flags (drop (suc k) (take width (drop at words)))))
-
-module _ (words : List ℕ) (at width s e : ℕ) where
-  pub none-outside : lies (length words) at width ≡ false → 0 ≡ mark_count (row words at width) s e
-  unfolding mark_count
-  none-outside h = sym (ap (λ (l : List Bool). mark_count l s e) (row-none words at width h)
-      ∙ ap (λ (l : List Bool). trues (take (suc e - s) l)) (drop_of_length-le [] {i = s} (omega arith)) ∙ trues-nil (suc e - s))
-
-  pub none-past : Within words at width → width ≤ s / 64 → 0 ≡ mark_count (row words at width) s e
-  unfolding mark_count
-  none-past h l = sym (ap (λ (b : List Bool). trues (take (suc e - s) b))
-      (drop_of_length-le (row words at width) {i = s} (omega (arith, row-length words at width h.inside))) ∙ trues-nil (suc e - s))
-
-  pub none_between : e < s → 0 ≡ mark_count (row words at width) s e
+-- lines through line e of which the first s are passed
+module _ (bs : List Bool) (s e : ℕ) where
+  pub none_there : drop s bs ≡ [] → 0 ≡ mark_count bs s e
   unfolding mark_count trues
-  none_between h = let z : suc e - s ≡ 0 = omega arith in sym (ap (λ (x : ℕ). trues (take x (drop s (row words at width)))) z)
+  none_there h = sym (ap (λ (b : List Bool). trues (take (suc e - s) b)) h ∙ ap trues (take-nil (suc e - s)))
 
-  pub begin : Within words at width → s / 64 < width → s ≤ e → get_or words (at + s / 64) 0 < 2 ^ 64
-      → Counted words at width s e (s / 64) 0 (64 - s % 64) (e - s) (get_or words (at + s / 64) 0 / 2 ^ (s % 64))
-  unfolding mark_count
-  begin h l g f =
-      let ws = take width (drop at words) in
-      let n = words-of-row words at width h.ends in
-      let z : 64 * (s / 64) + s % 64 ≡ s = omega arith in
-      let y : suc e - s ≡ suc (e - s) = omega arith in
-      let u : (64 - s % 64) + s % 64 ≡ 64 = omega arith in
-      record {
-        fits = h;
-        here = l;
-        some = omega arith;
-        most = omega arith;
-        few = omega arith;
-        word = shr_lt (64 - s % 64) (s % 64) (rw u f);
-        sum = ap₂ (λ (x : ℕ) (b : List Bool). trues (take x (drop s b))) y (row_words words at width h.inside)
-            ∙ ap (λ (x : ℕ). trues (take (suc (e - s)) (drop x (flags ws)))) (sym z)
-            ∙ ap (λ (b : List Bool). trues (take (suc (e - s)) b)) (open-flags ws (s / 64) (s % 64) (64 - s % 64) (omega arith) (omega arith))
-            ∙ ap (λ (x : ℕ). trues (take (suc (e - s)) (bits (64 - s % 64) (x / 2 ^ (s % 64)) ++ flags (drop (suc (s / 64)) ws)))) (word-of-row words at width (s / 64) l)
-            ∙ omega arith;
-      }
+  pub none_between : (s ≤ e → ⊥) → 0 ≡ mark_count bs s e
+  unfolding mark_count trues
+  none_between h = let z : suc e - s ≡ 0 = omega (arith, h) in sym (ap (λ (x : ℕ). trues (take x (drop s bs))) z)
 
-module _ (words : List ℕ) (at width s e k n room left w : ℕ) (c : Counted words at width s e k n room left w) where
-  passed : room ≤ left → mark_count (row words at width) s e ≡ n + ones w + trues (take (suc (left - room)) (flags (drop (suc k) (take width (drop at words)))))
-  passed h = omega (arith, c.sum, whole room left w (flags (drop (suc k) (take width (drop at words)))) h c.word)
+  module _ (w : ℕ) (later : List ℕ) (o : Opened (drop s bs) s w later) (h : s ≤ e) where
+    here : mark_count bs s e ≡ trues (take (suc (e - s)) (bits (64 - s % 64) w ++ flags later))
+    unfolding mark_count
+    here = let z : suc e - s ≡ suc (e - s) = omega arith in ap₂ (λ (x : ℕ) (b : List Bool). trues (take x b)) z o.are
 
-  pub no_more : (m : ℕ) → m ≡ ones w → room ≤ left → width ≤ k + 1 → n + m ≡ mark_count (row words at width) s e
-  no_more m q h l =
-      let g = past-flags (take width (drop at words)) (suc k) (omega (arith, words-of-row words at width c.fits.ends)) in
-      omega (arith, passed h, ap (λ (b : List Bool). trues (take (suc (left - room)) b)) g ∙ trues-nil (suc (left - room)))
+    pub one-word : e - s < 64 - s % 64 → trues (bits 64 ((w * 2 ^ (63 - (e - s))) % 2 ^ 64)) ≡ mark_count bs s e
+    one-word l = sym (here ∙ part (64 - s % 64) (e - s) w (flags later) l (omega arith))
 
-  pub turn : (m : ℕ) → m ≡ ones w → room ≤ left → k + 1 < width → get_or words (at + (k + 1)) 0 < 2 ^ 64
-      → Counted words at width s e (k + 1) (n + m) 64 (left - room) (get_or words (at + (k + 1)) 0)
-  turn m q h l f =
-      let ws = take width (drop at words) in
-      let z : suc k ≡ k + 1 = omega arith in
-      record {
-        fits = c.fits;
-        here = l;
-        some = omega arith;
-        most = omega arith;
-        few = omega (arith, ones-le room w c.word, c.few);
-        word = f;
-        sum = passed h ∙ ap (λ (x : ℕ). n + x + trues (take (suc (left - room)) (flags (drop (suc k) ws)))) (sym q)
-            ∙ ap (λ (x : ℕ). n + m + trues (take (suc (left - room)) (flags (drop x ws)))) z
-            ∙ ap (λ (b : List Bool). n + m + trues (take (suc (left - room)) b)) (next-flags ws (k + 1) (omega (arith, words-of-row words at width c.fits.ends)))
-            ∙ ap (λ (x : ℕ). n + m + trues (take (suc (left - room)) (bits 64 x ++ flags (drop (suc (k + 1)) ws)))) (word-of-row words at width (k + 1) l);
-      }
+    pub more-words : 64 - s % 64 ≤ e - s → trues (bits 64 w) + trues (take (suc (e - s - (64 - s % 64))) (flags later)) ≡ mark_count bs s e
+    more-words l =
+        let d = 64 - s % 64 in
+        let m = pow_mono {i = d} {j = 64} (omega arith) in
+        ap (λ (x : ℕ). x + trues (take (suc (e - s - d)) (flags later))) (trues-all 64 w (omega (arith, o.word)) ∙ sym (trues-all d w o.word))
+        ∙ sym (here ∙ whole d (e - s) w (flags later) l)
 
-  pub last : (m : ℕ) → m ≡ ones ((w * 2 ^ (63 - left)) % 2 ^ 64) → left < room → n + m ≡ mark_count (row words at width) s e
-  last m q h = omega (arith, c.sum, part room left w (flags (drop (suc k) (take width (drop at words)))) h c.most)
+-- lines of words, the last of them in word e / 64
+pub through-word : (ws : List ℕ) (e w : ℕ) → e / 64 < length ws → get_or ws (e / 64) 0 ≡ w
+    → trues (take (suc e) (flags ws)) ≡ trues (flags (take (e / 64) ws)) + trues (bits 64 ((w * 2 ^ (63 - e % 64)) % 2 ^ 64))
+through-word ws e w h g =
+    let k = e / 64 in
+    let us = take k ws in
+    let z : suc e ≡ length (flags us) + suc (e % 64) = omega (arith, length-flags us, length-take-le k ws (omega arith)) in
+    ap (λ (v : List ℕ). trues (take (suc e) (flags v))) (sym (take-append-drop k ws))
+    ∙ ap₂ (λ (x : ℕ) (b : List Bool). trues (take x b)) z (flags-append us (drop k ws))
+    ∙ ap trues (take-append-add (flags us) (flags (drop k ws)) (suc (e % 64)))
+    ∙ trues-append (flags us) (take (suc (e % 64)) (flags (drop k ws)))
+    ∙ ap (λ (b : List Bool). trues (flags us) + trues (take (suc (e % 64)) b)) (next-flags ws k h ∙ ap (λ (x : ℕ). bits 64 x ++ flags (drop (suc k) ws)) g)
+    ∙ ap (λ (x : ℕ). trues (flags us) + x) (part 64 (e % 64) w (flags (drop (suc k) ws)) (omega arith) (omega arith))
+
+-- lines of which none follows the words
+pub through-all : (ws : List ℕ) (e : ℕ) → length ws ≤ e / 64 → trues (take (suc e) (flags ws)) ≡ trues (flags ws)
+through-all ws e h = ap trues (take_all (suc e) (flags ws) (omega (arith, length-flags ws)))
+
+pub through-few : (ws : List ℕ) (e : ℕ) → trues (take (suc e) (flags ws)) ≤ 64 * length ws
+through-few ws e = omega (arith, trues_most (take (suc e) (flags ws)), length-take (suc e) (flags ws), length-flags ws)
+
+-- the lines of one word up to line p
+pub count-word : (ws : List ℕ) (p : ℕ) → p / 64 < length ws
+    → mark_count (flags ws) (p - p % 64) p ≡ trues (bits 64 ((get_or ws (p / 64) 0 * 2 ^ (63 - p % 64)) % 2 ^ 64))
+unfolding mark_count
+count-word ws p h =
+    let k = p / 64 in
+    let w = get_or ws k 0 in
+    let z : suc p - (p - p % 64) ≡ suc (p % 64) = omega arith in
+    let y : p - p % 64 ≡ 64 * k + 0 = omega arith in
+    ap₂ (λ (x y : ℕ). trues (take x (drop y (flags ws)))) z y
+    ∙ ap (λ (b : List Bool). trues (take (suc (p % 64)) b)) (open-flags ws k 0 64 h refl)
+    ∙ ap (λ (x : ℕ). trues (take (suc (p % 64)) (bits 64 x ++ flags (drop (suc k) ws)))) (div-one w)
+    ∙ part 64 (p % 64) w (flags (drop (suc k) ws)) (omega arith) (omega arith)

@@ -1,2 +1,2 @@
-mod Seeking
-mod Counting
+pub mod Opening
+pub mod Counting

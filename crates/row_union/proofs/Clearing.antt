@@ -1,30 +1,26 @@
--- A row cleared word by word. Assumes nothing.
-use Prim.Native.Nat.{ℕ, suc, ◌+◌, ◌-◌, ◌*◌, ◌<◌}
-use mathlib.Core.Path.{◌≡◌, sym, ap, ◌∙◌}
-use mathlib.Core.Bool.{Bool, true, false, cond}
-use mathlib.Core.List.{List, [], ◌++◌}
-use native.Mathlib.Omega.{arith}
-use lib.ListN.{length, set, replicate, length-replicate, replicate-append-replicate}
-use Rattle.marks.specs.Row.{lies, with_row, cleared}
-use Rattle.marks.proofs.Bits.{bits-zero}
-use Rattle.marks.proofs.WithRow.{with-clear, with-more}
+-- A row cleared. Assumes nothing.
+use Rattle.std.proofs.Common.{◌≡◌, ℕ, zero, suc, ◌+◌, List, [], ◌∷◌, ◌++◌, true, length, take, drop, replicate, refl, sym, ap, ◌∙◌, arith, cond, append_assoc}
+use Rattle.std.proofs.lemmas.Slice.{put_mid-paste}
+use lib.ListN.{length-replicate}
+use lib.Seq.{take_all}
+use borrow.Rule.Slice.PartMut.{put_mid}
+use Rattle.marks.specs.Row.{number, lies, packed, with_row, cleared}
+use Rattle.marks.proofs.Rows.{lies-true, words-of-row}
 
--- one word more
-pub clear-turn : (words ws : List ℕ) (to k : ℕ) → to + k < length words → ws ≡ with_row words to k [] → set ws (to + k) 0 ≡ with_row words to (k + 1) []
-clear-turn words ws to k h e =
-    let m : ℕ = 64 * k - 0 in
-    let n : ℕ = 64 * suc k - 0 in
-    let z : m + 64 ≡ n = omega arith in
-    let y : suc k ≡ k + 1 = omega arith in
-    ap (λ (x : List ℕ). set x (to + k) 0) (e ∙ sym (with-clear words to k [] (omega arith)))
-    ∙ with-more words to k (replicate m false) 0 h (omega (arith, length-replicate {A = Bool} m false)) (omega arith)
-    ∙ ap (with_row words to (suc k)) (ap (λ (x : List Bool). replicate m false ++ x) (bits-zero 64) ∙ replicate-append-replicate m 64 false ∙ ap (λ (x : ℕ). replicate x false) z)
-    ∙ with-clear words to (suc k) [] (omega arith) ∙ ap (λ (x : ℕ). with_row words to x []) y
+-- words of no lines
+pub packed-none : (w : ℕ) → packed w [] ≡ replicate w 0
+unfolding packed number
+packed-none zero = refl
+packed-none (suc w) = ap (λ (l : List ℕ). 0 ∷ l) (packed-none w)
 
--- a row that lies inside the words, and one that does not
-module _ (words : List ℕ) (at width : ℕ) where
-  pub cleared-is : lies (length words) at width ≡ true → with_row words at width [] ≡ cleared words at width
-  cleared-is h = sym (ap (λ b. cond b (with_row words at width []) words) h)
-
-  pub cleared-not : lies (length words) at width ≡ false → words ≡ cleared words at width
-  cleared-not h = sym (ap (λ b. cond b (with_row words at width []) words) h)
+-- a row that lies inside the words, filled with 0
+pub cleared-is : (words ys : List ℕ) (at width n : ℕ) → lies (length words) at width ≡ true → n ≡ width
+    → ys ≡ replicate (length (take n (drop at words))) 0 → put_mid at n words ys ≡ cleared words at width
+unfolding with_row
+cleared-is words ys at width n h z e =
+    let zs : List ℕ = replicate width 0 in
+    let m : length (take n (drop at words)) ≡ width = ap (λ (x : ℕ). length (take x (drop at words))) z ∙ words-of-row words at width (lies-true (length words) at width h).0 in
+    put_mid-paste at n words ys zs width (e ∙ ap (λ (x : ℕ). replicate x 0) m) (sym z) (sym (length-replicate {A = ℕ} width 0))
+    ∙ append_assoc (take at words) (take width zs) (drop (at + width) words)
+    ∙ ap (λ (l : List ℕ). take at words ++ (l ++ drop (at + width) words)) (take_all width zs (omega (arith, length-replicate {A = ℕ} width 0)) ∙ sym (packed-none width))
+    ∙ sym (ap (λ b. cond b (with_row words at width []) words) h)

@@ -1,4 +1,4 @@
--- The turns of `unite`: after k of them the rows of k words are united; and the test of `separate`. Assumes nothing.
+-- The turns of `unite`: after k of them the rows of k words are united. Assumes nothing.
 use Prim.Native.Nat.{ℕ, suc, ◌+◌, ◌^◌, ◌≤◌, ◌<◌}
 use mathlib.Core.Path.{◌≡◌, refl, sym, ap, ap₂, ◌∙◌}
 use mathlib.Core.Logic.{◌⊎◌, inl, inr, ⊎_elim}
@@ -6,32 +6,14 @@ use mathlib.Core.Bool.{Bool, true, false, cond, ◌&&◌, ◌||◌}
 use mathlib.Core.List.{List, [], ◌∷◌, ◌++◌}
 use native.Mathlib.Omega.{arith}
 use lib.ListN.{length, get_or, set, length-set}
-use lib.Dec.{leb}
 use lib.Bits.{bit_or, or_lt}
-use borrow.Author.Tests.{leb-true, leb-false, lt-leb}
-use Rattle.basics.proofs.Basics.{cases}
+use Rattle.basics.proofs.Basics.{and-true}
 use Rattle.stretches.specs.Stretch.{either}
 use Rattle.marks.specs.Row.{bits, lies, row, with_row, apart, united}
 use Rattle.marks.proofs.Bits.{or-bits}
-use Rattle.marks.proofs.Rows.{Within, true-lies, row-length, row_more}
+use Rattle.marks.proofs.Rows.{Within, let-in, true-lies, row-length, row_more}
 use Rattle.marks.proofs.United.{apart-true, true-apart, length-either, united-is}
 use Rattle.marks.proofs.WithRow.{with-outside, with_none, with-more}
-
--- ── The test of `separate` ──
-
-false-apart : (to at width : ℕ) → at < to + width → to < at + width → apart to at width ≡ false
-false-apart to at width h k = ap₂ (λ (b c : Bool). b || c) (lt-leb (to + width) at h) (lt-leb (at + width) to k)
-
--- the test by the distance of the two
-pub separated : (to at width d : ℕ) → (to + d ≡ at) ⊎ (at + d ≡ to) → leb width d ≡ apart to at width
-separated to at width d h = cases (leb width d) (λ b. b ≡ apart to at width)
-    (λ k. let z = leb-true width d k in
-    sym (true-apart to at width (⊎_elim (λ (e : to + d ≡ at). inl (omega arith)) (λ (e : at + d ≡ to). inr (omega arith)) h)))
-    (λ k. let z = leb-false width d k in
-    sym (⊎_elim (λ (e : to + d ≡ at). false-apart to at width (omega arith) (omega arith))
-    (λ (e : at + d ≡ to). false-apart to at width (omega arith) (omega arith)) h))
-
--- ── The turns ──
 
 either-append : (xs ys us vs : List Bool) → length xs ≡ length ys → either (xs ++ us) (ys ++ vs) ≡ either xs ys ++ either us vs
 either-append [] [] us vs h = refl
@@ -48,17 +30,23 @@ pub record Uniting (words₀ words : List ℕ) (to at width k : ℕ) : Type 0 wh
   pub clear : (to + width ≤ at) ⊎ (at + width ≤ to)
   pub done : words ≡ united words₀ to at k
 
-pub begin : (words : List ℕ) (to at width : ℕ) → Within words to width → Within words at width → apart to at width ≡ true → Uniting words words to at width 0
+pub begin : (words : List ℕ) (to at width : ℕ) → ((lies (length words) to width && lies (length words) at width) && apart to at width) ≡ true → Uniting words words to at width 0
 unfolding united
-begin words to at width f g s = record {
+begin words to at width h = record {
   upto = omega arith;
   wide = refl;
-  into = f;
-  from = g;
-  clear = apart-true to at width s;
+  into = let-in words to width rows.0;
+  from = let-in words at width rows.1;
+  clear = apart-true to at width parts.1;
   done = go ((lies (length words) to 0 && lies (length words) at 0) && apart to at 0);
 }
   where
+    parts : ((lies (length words) to width && lies (length words) at width) ≡ true) × (apart to at width ≡ true)
+    parts = and-true (lies (length words) to width && lies (length words) at width) (apart to at width) h
+
+    rows : (lies (length words) to width ≡ true) × (lies (length words) at width ≡ true)
+    rows = and-true (lies (length words) to width) (lies (length words) at width) parts.0
+
     go : (c : Bool) → words ≡ cond c (with_row words to 0 (either (row words to 0) (row words at 0))) words
     go true = sym (with_none words to (either (row words to 0) (row words at 0)))
     go false = refl
@@ -104,6 +92,3 @@ module _ (words₀ words : List ℕ) (to at width k : ℕ) (c : Uniting words₀
             ∙ sym (ap₂ either (row_more words₀ to k (into (suc k) (omega arith))) (row_more words₀ at k (from (suc k) (omega arith)))))
             ∙ sym (part (suc k) (omega arith)) ∙ ap (united words₀ to at) z;
       }
-
-  pub finish : width ≤ k → words ≡ united words₀ to at width
-  finish l = let z : k ≡ width = omega (arith, c.upto) in c.done ∙ ap (united words₀ to at) z

@@ -1,8 +1,8 @@
 // Whole rows changed: cleared, and united. Rows are as `marks` has them.
 #![tactic(auto)]
 
-ghost use Rattle.std.specs.Prelude.{◌≡◌};
-ghost use Rattle.marks.specs.Row.{apart, cleared, united};
+ghost use Rattle.std.specs.Prelude.{◌≡◌, ◌&&◌};
+ghost use Rattle.marks.specs.Row.{lies, apart, cleared, united};
 
 use marks::inside;
 
@@ -10,24 +10,16 @@ use marks::inside;
 pub fn clear(words: &mut [u64], at: usize, width: usize)
     ensures { words.new ≡ cleared words.old at width }
 {
-    if !inside(words.len(), at, width) {
-        return;
-    }
-    let mut i = 0;
-    while i < width {
-        words[at + i] = 0;
-        i += 1;
+    if inside(words.len(), at, width) {
+        words[at..at + width].fill(0);
     }
 }
 
-// Whether two rows of width words share none.
-fn separate(to: usize, at: usize, width: usize) -> bool
-    ensures { result ≡ apart to at width }
+// Whether two rows of width words lie inside so many words and share none.
+fn separate(len: usize, to: usize, at: usize, width: usize) -> bool
+    ensures { result ≡ ((lies len to width && lies len at width) && apart to at width) }
 {
-    if to < at {
-        return width <= at - to;
-    }
-    width <= to - at
+    inside(len, to, width) && inside(len, at, width) && width <= to.abs_diff(at)
 }
 
 // Marks the row from place `to` on also where the row from place `at` on is marked; all other words stay. Where one does not lie inside the words, or they
@@ -35,19 +27,9 @@ fn separate(to: usize, at: usize, width: usize) -> bool
 pub fn unite(words: &mut [u64], to: usize, at: usize, width: usize)
     ensures { words.new ≡ united words.old to at width }
 {
-    if !inside(words.len(), to, width) {
-        return;
-    }
-    if !inside(words.len(), at, width) {
-        return;
-    }
-    if !separate(to, at, width) {
-        return;
-    }
-    let mut k = 0;
-    while k < width {
-        let i = to + k;
-        words[i] = words[i] | words[at + k];
-        k += 1;
+    if separate(words.len(), to, at, width) {
+        for k in 0..width {
+            words[to + k] |= words[at + k];
+        }
     }
 }

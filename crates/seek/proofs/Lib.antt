@@ -4,7 +4,7 @@ pub mod Measuring
 pub mod Looks
 pub mod Nodes
 pub mod Shapes
-pub mod State
+pub mod Keeping
 pub mod Turns
 pub mod Searches
 pub mod Ahead

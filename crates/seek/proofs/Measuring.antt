@@ -5,7 +5,8 @@ use mathlib.Core.Bool.{cond}
 use mathlib.Core.List.{List}
 use lib.ListN.{length}
 use borrow.Author.Tests.{eq-eqb, ne_eqb}
-use Rattle.stretches.specs.Stretch.{Stretch, length_of}
+use Rattle.stretches.specs.declared.Stretch.{Stretch}
+use Rattle.stretches.specs.Stretch.{length_of}
 use Rattle.ranks.specs.Rank.{marks_by}
 use Rattle.seek.specs.Source.{measured_by}
 

@@ -7,9 +7,11 @@ use Prim.Native.Nat.{ℕ, ◌+◌, ◌≤◌, ◌<◌}
 use native.Mathlib.Omega.{arith}
 use lib.Dec.{eqb}
 use borrow.Author.Tests.{ne_eqb}
-use Rattle.stretches.specs.Stretch.{Stretch, Fine, keep, keep_first, contains_none, contains_some, lies_in_none, lies_in_some, at_most, Op, answers, marks}
+use Rattle.stretches.specs.declared.Node.{Node}
+use Rattle.stretches.specs.declared.Stretch.{Stretch}
+use Rattle.stretches.specs.Stretch.{st, Fine, keep, keep_first, contains_none, contains_some, lies_in_none, lies_in_some, at_most, Op, answers, marks}
 use Rattle.stretches.specs.Operators.{operator_of, apply}
-use Rattle.stretches.specs.Front.{None, At, first_from}
+use Rattle.stretches.specs.Front.{None, Some, first_from}
 use Rattle.stretches.specs.Table.{kind_at, first_at, second_at, stop_of}
 use Rattle.stretches.specs.inner.Operands.{operands_of}
 use Rattle.stretches.specs.Stretch as op
@@ -22,7 +24,7 @@ use Rattle.stretches.proofs.Operators.{no-operator}
 use Rattle.stretches.proofs.Table.{list-node, all-operands, fine-list}
 use Rattle.marks.specs.Row.{row}
 use Rattle.seek.specs.Source.{Source, measured, lent, own_list, given, list_over, Good}
-use Rattle.seek.specs.First.{at_f, none_f, front, first}
+use Rattle.seek.specs.First.{gone, front, first}
 use Rattle.seek.specs.inner.Fronts.{kept, go_f}
 use Rattle.seek.specs.inner.Looks.{passes, look_by, look, Narrows, Skips}
 use Rattle.seek.proofs.Shapes.{filter-kind}
@@ -30,7 +32,7 @@ use Rattle.seek.proofs.Looks.{TightLook, t-none, SkipLook, k-none, and-look, the
 
 -- ── Fronts ──
 
-module _ (src : Source) (rows : List ℕ) (good : Good src rows) (v : ℕ) (lv : v < 32) where
+module _ (src : Source) (rows : List Node) (good : Good src rows) (v : ℕ) (lv : v < 32) where
   -- a node's list is fine
   pub fine : Fine 65536 (list_over src rows v)
   fine = fine-list (given src rows) rows 65536 good v lv
@@ -40,31 +42,28 @@ module _ (src : Source) (rows : List ℕ) (good : Good src rows) (v : ℕ) (lv :
   fine-operands = all-operands (given src rows) rows 65536 good (stop_of rows v) (v + 1)
 
   -- a front is none, or starts below line 65,536
-  pub first_small : (t : ℕ) → (first src rows v t).start ≤ 65536
-  unfolding first
+  pub first_small : (t : ℕ) → (front (first src rows v t)).start ≤ 65536
   first_small t = go (first_from (list_over src rows v) t) (first_good (list_over src rows v) fine.rising t)
     where
       go : (g : fronts.Front) → FirstIs (list_over src rows v) t g → (front g).start ≤ 65536
       go None h = omega arith
-      go (At x) h = omega (arith, fine.sound x.start x.end h.0, fine.below x.start x.end h.0)
+      go (Some x) h = omega (arith, fine.sound x.start x.end h.0, fine.below x.start x.end h.0)
 
   -- what was found from t serves from any t' up to it
-  pub stays : (t t' : ℕ) → t ≤ t' → t' ≤ (first src rows v t).start → first src rows v t' ≡ first src rows v t
-  unfolding first
+  pub stays : (t t' : ℕ) → t ≤ t' → t' ≤ (front (first src rows v t)).start → front (first src rows v t') ≡ front (first src rows v t)
   stays t t' le ge = go (first_from (list_over src rows v) t) (first_good (list_over src rows v) fine.rising t) ge
     where
       go : (g : fronts.Front) → FirstIs (list_over src rows v) t g → t' ≤ (front g).start → front (first_from (list_over src rows v) t') ≡ front g
       go None h k = ap front (first-none (list_over src rows v) fine.rising t' (λ s e m. omega (arith, h s e m)))
-      go (At x) h k = ap front (first-is (list_over src rows v) fine.rising t' x.start x.end h.0 k (λ s e m p. (h.2 s e m (omega arith)).1))
+      go (Some x) h k = ap front (first-is (list_over src rows v) fine.rising t' x.start x.end h.0 k (λ s e m p. (h.2 s e m (omega arith)).1))
 
   -- nothing starts at line 65,536 or later
-  pub past : (t : ℕ) → 65536 ≤ t → none_f ≡ first src rows v t
-  unfolding first
+  pub past : (t : ℕ) → 65536 ≤ t → gone ≡ front (first src rows v t)
   past t h = ap front (sym (first-none (list_over src rows v) fine.rising t (λ a e m. omega (arith, fine.sound a e m, fine.below a e m))))
 
 -- ── A node's list by its kind ──
 
-module _ (src : Source) (rows : List ℕ) (v : ℕ) (lv : v < 32) where
+module _ (src : Source) (rows : List Node) (v : ℕ) (lv : v < 32) where
   pub by_kind : (k : ℕ) → kind_at rows v ≡ k → list_over src rows v ≡ apply (operator_of (measured src) k (first_at rows v)) (own_list src k (first_at rows v) (second_at rows v)) (operands_of (given src rows) rows v)
   by_kind k e =
       list-node (given src rows) rows v lv
@@ -91,7 +90,7 @@ module _ (src : Source) (rows : List ℕ) (v : ℕ) (lv : v < 32) where
 -- ── and, then: tight looks ──
 
 -- what narrowing needs of a node: its operator over fine lists, with tight looks
-pub record Narrowing (src : Source) (rows : List ℕ) (v : ℕ) : Type 0 where
+pub record Narrowing (src : Source) (rows : List Node) (v : ℕ) : Type 0 where
   pub op : Op
   pub ls : List (List Stretch)
   pub fines : AllFine 65536 ls
@@ -105,7 +104,7 @@ small-cand o ls f s e c =
     let b = cand-below o 65536 ls f.below s e c in
     (omega arith, b)
 
-module _ (src : Source) (rows : List ℕ) (good : Good src rows) (v : ℕ) (lv : v < 32) where
+module _ (src : Source) (rows : List Node) (good : Good src rows) (v : ℕ) (lv : v < 32) where
   -- a look by the node's kind
   pub look-kind : (k t : ℕ) → kind_at rows v ≡ k → look src rows v t ≡ look_by src k (first_at rows v) (operands_of (given src rows) rows v) t
   unfolding look
@@ -142,9 +141,9 @@ module _ (src : Source) (rows : List ℕ) (good : Good src rows) (v : ℕ) (lv :
   row-skip-look (l ∷ ls) f t = row-look l ls f t
 
   -- a filter's, by its test
-  filter-skip-look : (k : ℕ) (test : List (List Stretch) → Stretch → Bool) → ((t : ℕ) → look_by src k (first_at rows v) [] t ≡ none_f)
+  filter-skip-look : (k : ℕ) (test : List (List Stretch) → Stretch → Bool) → ((t : ℕ) → look_by src k (first_at rows v) [] t ≡ gone)
       → ((l : List Stretch) (ls : List (List Stretch)) (t : ℕ) → look_by src k (first_at rows v) (l ∷ ls) t ≡ go_f (front (first_from l t)) (λ x. kept x (passes src k (first_at rows v) ls x)))
-      → ((ls : List (List Stretch)) → AllFine 65536 ls → (x : Stretch) → x.start < 65536 → x.end < 65536 → passes src k (first_at rows v) ls (at_f x.start x.end) ≡ test ls x)
+      → ((ls : List (List Stretch)) → AllFine 65536 ls → (x : Stretch) → x.start < 65536 → x.end < 65536 → passes src k (first_at rows v) ls (st x.start x.end) ≡ test ls x)
       → (ls : List (List Stretch)) → AllFine 65536 ls → (t : ℕ) → SkipLook (keep_first test ls) t (look_by src k (first_at rows v) ls t)
   filter-skip-look k test none one is [] f t = subst (SkipLook [] t) (sym (none t)) (k-none refl)
   filter-skip-look k test none one is (l ∷ ls) f t =

@@ -1,35 +1,25 @@
 // Leaves: a row of marks, or a lent list.
 ghost use Rattle.std.specs.Prelude.{◌≡◌, ◌<◌, ◌≤◌, length};
 ghost use Rattle.stretches.specs.Table.{first_at, second_at};
-ghost use Rattle.seek.specs.First.{at_f};
+ghost use Rattle.stretches.specs.Stretch.{st};
 ghost use Rattle.seek.specs.inner.Leaves.{Resumed, Ran, ListFound, RowFound};
 
-use crate::fronts::{at, none};
-use crate::{Front, STATE};
+use crate::fronts::GONE;
+use crate::{Searched, State};
 use basics::wide;
-use nodes::{FIRST, SECOND, TABLE};
+use stretches::Stretch;
 
 // The front of one line; none from line 65,536 on.
-fn at_line(line: usize) -> Front
-    ensures { line < 65536 → result ≡ at_f line line }
+fn at_line(line: usize) -> Stretch
+    ensures { line < 65536 → result ≡ st line line }
 {
     if 65535 < line {
-        return none();
+        return GONE;
     }
-    let p = line as u32;
-    at(p, p)
-}
-
-// The first marked line from t on of the row that the leaf's numbers name.
-pub(crate) fn seek_row(rows: &[usize; TABLE], words: &[u64], v: usize, t: u32) -> Front
-    requires { v < 32 }
-    ensures { RowFound words.now (first_at rows.now v) (second_at rows.now v) t result }
-{
-    let f = row_search::next(words, rows[FIRST + v], rows[SECOND + v], t as usize);
-    if f.hit {
-        return at_line(f.line);
+    Stretch {
+        start: line as u32,
+        end: line as u32,
     }
-    none()
 }
 
 fn hint_of(x: usize) -> u32 {
@@ -41,19 +31,7 @@ fn resume(items: &[u32], lo: usize, hi: usize, c: usize, t: u32) -> usize
     requires { (lo ≤ hi) × (hi ≤ length items.now) }
     ensures { Resumed items.now lo hi t result }
 {
-    if c < lo {
-        return lo;
-    }
-    if c - lo < 2 {
-        return lo;
-    }
-    if hi < c {
-        return lo;
-    }
-    if (c - lo) % 2 != 0 {
-        return lo;
-    }
-    if t <= items[c - 2] {
+    if c < lo || c - lo < 2 || hi < c || (c - lo) % 2 != 0 || t <= items[c - 2] {
         return lo;
     }
     c
@@ -74,31 +52,40 @@ fn run(items: &[u32], p: usize, hi: usize, t: u32) -> usize
     i
 }
 
-// The first stretch from t on of the list that lies between the leaf's two places; none where it lies outside the items.
-pub(crate) fn seek_list(
-    rows: &[usize; TABLE],
-    items: &[u32],
-    st: &mut [u32; STATE],
-    v: usize,
-    t: u32,
-) -> Front
-    requires { v < 32 }
-    ensures { ListFound items.now (first_at rows.now v) (second_at rows.now v) t st.old result st.new }
-{
-    let lo = rows[FIRST + v];
-    let hi = rows[SECOND + v];
-    if hi < lo {
-        return none();
+impl<'a> Searched<'a> {
+    // The first marked line from t on of the row that the leaf's numbers name.
+    pub(crate) fn seek_row(&self, v: usize, t: u32) -> Stretch
+        requires { v < 32 }
+        ensures { RowFound self.now.words.now (first_at self.now.rows.now v) (second_at self.now.rows.now v) t result }
+    {
+        let row = &self.rows[v];
+        match row_search::next(self.words, row.first, row.second, t as usize) {
+            Some(line) => at_line(line),
+            None => GONE,
+        }
     }
-    if items.len() < hi {
-        return none();
+
+    // The first stretch from t on of the list that lies between the leaf's two places; none where it lies outside the items.
+    pub(crate) fn seek_list(&self, st: &mut State, v: usize, t: u32) -> Stretch
+        requires { v < 32 }
+        ensures { ListFound self.now.items.now (first_at self.now.rows.now v) (second_at self.now.rows.now v) t st.old result st.new }
+    {
+        let items = self.items;
+        let lo = self.rows[v].first;
+        let hi = self.rows[v].second;
+        if hi < lo || items.len() < hi {
+            return GONE;
+        }
+        let c = wide(st.kept[v].hint);
+        let p = resume(items, lo, hi, c, t);
+        let r = run(items, p, hi, t);
+        st.kept[v].hint = hint_of(r);
+        if hi <= r + 1 {
+            return GONE;
+        }
+        Stretch {
+            start: items[r],
+            end: items[r + 1],
+        }
     }
-    let c = wide(st[160 + v]);
-    let p = resume(items, lo, hi, c, t);
-    let r = run(items, p, hi, t);
-    st[160 + v] = hint_of(r);
-    if hi <= r + 1 {
-        return none();
-    }
-    at(items[r], items[r + 1])
 }

@@ -18,8 +18,8 @@ use Rattle.lines.proofs.LinesLaws.{cut-few}
 use Rattle.records.proofs.Walk.{damaged-few}
 use Rattle.basics.proofs.Basics.{le-or-lt}
 use Rattle.pattern.proofs.Outcomes.{refuses-long}
-use Rattle.meaning.specs.declared.Filled.{Filled}
-use Rattle.meaning.specs.Refusals.{Refusal, refused, refusal}
+use Rattle.meaning.specs.Replies.{FillReply}
+use Rattle.meaning.specs.Refusals.{Signal, refused, refusal}
 use Rattle.meaning.specs.Finding.{list_of, filling}
 use Rattle.meaning.proofs.Tree.{fine-answers_of}
 use Rattle.meaning.proofs.Run.{says-length}
@@ -31,7 +31,7 @@ use Rattle.marking.specs.Rows.{counted}
 use Rattle.input.specs.declared.Intake.{Intake}
 use Rattle.input.specs.Input.{pattern_of, log_of, Keeps}
 use Rattle.print.specs.Print.{field, rows, found_sheet, refused_sheet, shown, Writes}
-use Rattle.print.proofs.Decimals.{length-below}
+use Rattle.basics.proofs.Decimals.{decimal-short}
 use Rattle.print.proofs.Printed.{length-field, shown-flat}
 use Rattle.print.proofs.Written.{length_found, length-refused}
 use Rattle.sheet.specs.Sheet.{sheet_of, printed, printed_of}
@@ -39,11 +39,11 @@ use Rattle.sheet.specs.Sheet.{sheet_of, printed, printed_of}
 -- ── From a filling call ──
 
 -- the sheet of a filling call, by whether it was refused
-pub sheet-refused : (f : Filled) (log cells : List ℕ) → (f.number ≡ 0 → ⊥) → refused_sheet f.number f.place ≡ sheet_of f log cells
+pub sheet-refused : (f : FillReply) (log cells : List ℕ) → (f.number ≡ 0 → ⊥) → refused_sheet f.number f.place ≡ sheet_of f log cells
 unfolding sheet_of
 sheet-refused f log cells n = rw (ne_eqb f.number 0 n)
 
-pub sheet-found : (f : Filled) (log cells : List ℕ) (c : Counted) → f.number ≡ 0 → c ≡ counted log
+pub sheet-found : (f : FillReply) (log cells : List ℕ) (c : Counted) → f.number ≡ 0 → c ≡ counted log
     → found_sheet c.lines c.damaged (shown f.count cells) ≡ sheet_of f log cells
 unfolding sheet_of
 sheet-found f log cells c e k = rw (eq-eqb f.number 0 e, k)
@@ -59,10 +59,10 @@ filled-sheet pattern log cells h =
     ap (λ (x : List Stretch). cond (eqb (refusal pattern log).number 0) (found_sheet (counted log).lines (counted log).damaged x) (refused_sheet (refusal pattern log).number (refusal pattern log).place)) s
 
 -- so the sheet that is written of it is that one
-pub fill-laid : (pattern log cells cells' out out' : List ℕ) (f : Filled) (r : ℕ) → (f ≡ filling pattern log 0 cells) × (cells' ≡ filled (list_of pattern log) 0 cells) → 122880 ≤ length cells
+pub fill-laid : (pattern log cells cells' out out' : List ℕ) (f : FillReply) (r : ℕ) → (f ≡ filling pattern log 0 cells) × (cells' ≡ filled (list_of pattern log) 0 cells) → 122880 ≤ length cells
     → Writes (sheet_of f log cells') out r out' → Writes (printed pattern log) out r out'
 fill-laid pattern log cells cells' out out' f r g h w =
-    subst (λ (s : List ℕ). Writes s out r out') (ap₂ (λ (x : Filled) (m : List ℕ). sheet_of x log m) g.0 g.1 ∙ filled-sheet pattern log cells h) w
+    subst (λ (s : List ℕ). Writes s out r out') (ap₂ (λ (x : FillReply) (m : List ℕ). sheet_of x log m) g.0 g.1 ∙ filled-sheet pattern log cells h) w
 
 -- ── Cut short ──
 
@@ -70,7 +70,7 @@ fill-laid pattern log cells cells' out out' f r g h w =
 printed-refused : (pattern log : List ℕ) (n q : ℕ) → refusal pattern log ≡ refused n q → 1 ≤ n → printed pattern log ≡ refused_sheet n q
 unfolding printed
 printed-refused pattern log n q e h =
-    ap (λ (r : Refusal). cond (eqb r.number 0) (found_sheet (counted log).lines (counted log).damaged (list_of pattern log)) (refused_sheet r.number r.place)) e
+    ap (λ (r : Signal). cond (eqb r.number 0) (found_sheet (counted log).lines (counted log).damaged (list_of pattern log)) (refused_sheet r.number r.place)) e
     ∙ rw (ne_eqb n 0 (λ z. omega (arith, z)))
 
 printed-long-log : (pattern log : List ℕ) → 61440 < length log → printed pattern log ≡ refused_sheet 1 0
@@ -108,7 +108,7 @@ keeps-sheet input t p l k h j = ap₂ printed k.pattern.bytes k.log.bytes ∙ cu
 -- ── Its length ──
 
 short-field : (n mark : ℕ) → n < 100000 → length (field n mark) ≤ 6
-short-field n mark h = omega (arith, length-field n mark, length-below 4 n (omega arith))
+short-field n mark h = omega (arith, length-field n mark, decimal-short 4 n (omega arith))
 
 short-rows : (l : List Stretch) → Sound l → Below 61440 l → length (rows l) ≤ 12 * length l
 unfolding rows

@@ -2,14 +2,14 @@
 -- Assumes nothing.
 use Rattle.std.specs.Prelude.{ℕ, cond, List, eqb}
 use Rattle.marking.specs.Rows.{counted}
-use Rattle.meaning.specs.declared.Filled.{Filled}
+use Rattle.meaning.specs.Replies.{FillReply}
 use Rattle.meaning.specs.Refusals.{refusal}
 use Rattle.meaning.specs.Finding.{list_of}
 use Rattle.input.specs.Input.{pattern_of, log_of}
 use Rattle.print.specs.Print.{found_sheet, refused_sheet, shown}
 
 -- the sheet of what a filling call from number 0 returned and left in the cells
-unfoldable pub sheet_of : Filled → List ℕ → List ℕ → List ℕ
+unfoldable pub sheet_of : FillReply → List ℕ → List ℕ → List ℕ
 sheet_of f log cells =
     cond (eqb f.number 0) (found_sheet (counted log).lines (counted log).damaged (shown f.count cells)) (refused_sheet f.number f.place)
 

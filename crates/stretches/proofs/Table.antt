@@ -12,13 +12,14 @@ use borrow.Author.Tests.{leb-true, ltb-true, le-leb, lt-ltb, le-ltb, eq-eqb, ne_
 use Rattle.basics.proofs.Basics.{cases, eq-or-ne}
 use Rattle.stretches.specs.Stretch.{Stretch, Fine}
 use Rattle.stretches.specs.Operators.{operator_of, apply}
+use Rattle.stretches.specs.declared.Node.{Node}
 use Rattle.stretches.specs.Table.{kind_at, size_at, first_at, next_of, stop_of, operands, numbers, operands_up, Given, node_list, last_lists, list_at}
 use Rattle.stretches.specs.inner.Operands.{operands_from, operands_of}
 use Rattle.stretches.proofs.Fine.{AllFine, all_none, all_more, first_fine, rest-fine, fine-apply}
 
 -- ── The places behind a node ──
 
-pub next_past : (rows : List ℕ) (c : ℕ) → c < 32 → (c < next_of rows c) × (next_of rows c ≤ 32)
+pub next_past : (rows : List Node) (c : ℕ) → c < 32 → (c < next_of rows c) × (next_of rows c ≤ 32)
 unfolding next_of
 next_past rows c h =
     let behind = cond (leb (size_at rows c) (32 - c)) (c + size_at rows c) 32 in
@@ -29,7 +30,7 @@ next_past rows c h =
     cases (leb (size_at rows c) (32 - c)) (λ b. (c < cond b (c + size_at rows c) 32) × (cond b (c + size_at rows c) 32 ≤ 32))
     (λ k. let l = leb-true (size_at rows c) (32 - c) k in (omega (arith, n), omega arith)) (λ k. (omega arith, omega arith))))
 
-pub stop-most : (rows : List ℕ) (v : ℕ) → stop_of rows v ≤ 32
+pub stop-most : (rows : List Node) (v : ℕ) → stop_of rows v ≤ 32
 unfolding stop_of
 stop-most rows v =
     cases (ltb v 32) (λ b. cond b (cond (leb (size_at rows v) (32 - v)) (v + size_at rows v) 32) 32 ≤ 32)
@@ -38,7 +39,7 @@ stop-most rows v =
     (λ h. omega arith)
 
 -- a subtree that ends inside the table
-pub next-is : (rows : List ℕ) (c n : ℕ) → size_at rows c ≡ n → 0 < n → c + n ≤ 32 → next_of rows c ≡ c + n
+pub next-is : (rows : List Node) (c n : ℕ) → size_at rows c ≡ n → 0 < n → c + n ≤ 32 → next_of rows c ≡ c + n
 unfolding next_of
 next-is rows c n e z h =
     let i : ltb c 32 ≡ true = lt-ltb c 32 (omega arith) in
@@ -47,7 +48,7 @@ next-is rows c n e z h =
     ap (λ b. cond b (cond (eqb (size_at rows c) 0) (c + 1) (cond (leb (size_at rows c) (32 - c)) (c + size_at rows c) 32)) 32) i
     ∙ ap₂ (λ a b. cond a (c + 1) (cond b (c + size_at rows c) 32)) j k ∙ omega arith
 
-pub stop_is : (rows : List ℕ) (v n : ℕ) → size_at rows v ≡ n → 0 < n → v + n ≤ 32 → stop_of rows v ≡ v + n
+pub stop_is : (rows : List Node) (v n : ℕ) → size_at rows v ≡ n → 0 < n → v + n ≤ 32 → stop_of rows v ≡ v + n
 unfolding stop_of
 stop_is rows v n e z h =
     let i : ltb v 32 ≡ true = lt-ltb v 32 (omega arith) in
@@ -55,17 +56,17 @@ stop_is rows v n e z h =
     ap₂ (λ a b. cond a (cond b (v + size_at rows v) 32) 32) i k ∙ omega arith
 
 -- they go by the sizes alone
-next-same : (rows rows' : List ℕ) (c : ℕ) → size_at rows' c ≡ size_at rows c → next_of rows' c ≡ next_of rows c
+next-same : (rows rows' : List Node) (c : ℕ) → size_at rows' c ≡ size_at rows c → next_of rows' c ≡ next_of rows c
 unfolding next_of
 next-same rows rows' c e = ap (λ (n : ℕ). cond (ltb c 32) (cond (eqb n 0) (c + 1) (cond (leb n (32 - c)) (c + n) 32)) 32) e
 
-stop-same : (rows rows' : List ℕ) (v : ℕ) → size_at rows' v ≡ size_at rows v → stop_of rows' v ≡ stop_of rows v
+stop-same : (rows rows' : List Node) (v : ℕ) → size_at rows' v ≡ size_at rows v → stop_of rows' v ≡ stop_of rows v
 unfolding stop_of
 stop-same rows rows' v e = ap (λ (n : ℕ). cond (ltb v 32) (cond (leb n (32 - v)) (v + n) 32) 32) e
 
 -- ── Operands among the nodes from u on ──
 
-module _ {A : Type 0} (rows : List ℕ) (stop c u : ℕ) (l : A) (ls : List A) where
+module _ {A : Type 0} (rows : List Node) (stop c u : ℕ) (l : A) (ls : List A) where
   -- a node that is not looked for
   passed-by : (u ≡ c → ⊥) → operands rows stop c u (l ∷ ls) ≡ operands rows stop c (suc u) ls
   unfolding operands
@@ -77,7 +78,7 @@ module _ {A : Type 0} (rows : List ℕ) (stop c u : ℕ) (l : A) (ls : List A) w
   picked e h = ap₂ (λ a b. cond (a && b) (l ∷ operands rows stop (next_of rows c) (suc u) ls) (operands rows stop c (suc u) ls)) (eq-eqb u c e) (lt-ltb c stop h)
 
 -- past the last operand
-none_left : {A : Type 0} (rows : List ℕ) (stop c u : ℕ) (ls : List A) → stop ≤ c → operands rows stop c u ls ≡ []
+none_left : {A : Type 0} (rows : List Node) (stop c u : ℕ) (ls : List A) → stop ≤ c → operands rows stop c u ls ≡ []
 unfolding operands
 none_left rows stop c u [] h = refl
 none_left rows stop c u (l ∷ ls) h = cases (eqb u c) (λ b. cond (b && ltb c stop) (l ∷ operands rows stop (next_of rows c) (suc u) ls) (operands rows stop c (suc u) ls) ≡ [])
@@ -85,7 +86,7 @@ none_left rows stop c u (l ∷ ls) h = cases (eqb u c) (λ b. cond (b && ltb c s
     (λ k. none_left rows stop c (suc u) ls h)
 
 -- a choice of operands, and a function of each
-operands-map : {A B : Type 0} (f : A → B) (rows : List ℕ) (stop c u : ℕ) (xs : List A) → operands rows stop c u (map f xs) ≡ map f (operands rows stop c u xs)
+operands-map : {A B : Type 0} (f : A → B) (rows : List Node) (stop c u : ℕ) (xs : List A) → operands rows stop c u (map f xs) ≡ map f (operands rows stop c u xs)
 unfolding operands
 operands-map f rows stop c u [] = refl
 operands-map {B = B} f rows stop c u (x ∷ xs) = go (eqb u c && ltb c stop) (operands-map f rows stop (next_of rows c) (suc u) xs) (operands-map f rows stop c (suc u) xs)
@@ -97,7 +98,7 @@ operands-map {B = B} f rows stop c u (x ∷ xs) = go (eqb u c && ltb c stop) (op
 
 -- ── The operands' numbers ──
 
-module _ (rows : List ℕ) (stop : ℕ) where
+module _ (rows : List Node) (stop : ℕ) where
   -- nodes before the operand looked for are passed by
   pass-by : (c n u : ℕ) → u + n ≡ 32 → u ≤ c → operands rows stop c u (numbers u n) ≡ operands_up rows stop c
   unfolding operands_up numbers operands
@@ -125,7 +126,7 @@ module _ (rows : List ℕ) (stop : ℕ) where
 
 -- ── Node by node ──
 
-module _ (g : Given) (rows : List ℕ) where
+module _ (g : Given) (rows : List Node) where
   lists-drop : (v n : ℕ) → get_or (last_lists g rows (v + n)) v [] ≡ get_or (last_lists g rows n) 0 []
   unfolding last_lists
   lists-drop zero n = let z : 0 + n ≡ n = omega arith in ap (λ (k : ℕ). get_or (last_lists g rows k) 0 []) z
@@ -207,7 +208,7 @@ module _ (g : Given) (rows : List ℕ) where
 -- ── Tables with the same lists ──
 
 -- the operands go by the sizes alone
-operands_same : {A : Type 0} (rows rows' : List ℕ) → ((v : ℕ) → v < 32 → size_at rows' v ≡ size_at rows v) → (stop c u : ℕ) (ls : List A) → u + length ls ≡ 32
+operands_same : {A : Type 0} (rows rows' : List Node) → ((v : ℕ) → v < 32 → size_at rows' v ≡ size_at rows v) → (stop c u : ℕ) (ls : List A) → u + length ls ≡ 32
     → operands rows' stop c u ls ≡ operands rows stop c u ls
 unfolding operands
 operands_same rows rows' sizes stop c u [] e = refl
@@ -225,13 +226,13 @@ operands_same {A} rows rows' sizes stop c u (l ∷ ls) e = go (λ k. operands_sa
         (ap (λ (k : ℕ). operands rows' stop k (suc u) ls) n ∙ same (next_of rows c)) (same c)
     go same (inr k) = passed-by rows' stop c u l ls (apart k) ∙ same c ∙ sym (passed-by rows stop c u l ls (apart k))
 
-length_last : (g : Given) (rows : List ℕ) (n : ℕ) → length (last_lists g rows n) ≡ n
+length_last : (g : Given) (rows : List Node) (n : ℕ) → length (last_lists g rows n) ≡ n
 unfolding last_lists
 length_last g rows zero = refl
 length_last g rows (suc n) = ap suc (length_last g rows n)
 
 -- two tables of the same sizes, where each node of the one makes of the other's operands the other's list
-module _ (g g' : Given) (rows rows' : List ℕ) (sizes : (v : ℕ) → v < 32 → size_at rows' v ≡ size_at rows v)
+module _ (g g' : Given) (rows rows' : List Node) (sizes : (v : ℕ) → v < 32 → size_at rows' v ≡ size_at rows v)
     (nodes : (v : ℕ) → v < 32 → apply (operator_of g'.measure (kind_at rows' v) (first_at rows' v)) (g'.own v) (operands_of g rows v) ≡ list_at g rows v) where
   last-same : (n : ℕ) → n ≤ 32 → last_lists g' rows' n ≡ last_lists g rows n
   unfolding last_lists

@@ -7,7 +7,7 @@ use mathlib.Core.Bool.{true, false}
 use mathlib.Core.List.{List, [], ◌∷◌}
 use native.Mathlib.Omega.{arith}
 use Rattle.stretches.specs.Stretch.{Keep, Then, Row, Stretch, AllRising, AllSound, Op, Or, And, answers}
-use Rattle.stretches.specs.Front.{Front, None, At, nth}
+use Rattle.stretches.specs.Front.{Front, None, Some, nth}
 use Rattle.stretches.specs.Taking.{AnswerCounts, fronts, Order, ends_first, starts_first, top, top_index, span, contains, one_more, advance, is_top, begun, HasTaking, taking}
 use Rattle.stretches.specs.Loops.{SkipGives, skip-over, skip-on, ShrinkGives, shrink-top, shrink-over, shrink-on, NextGives, or-next, and_none, and-next, TakingGives, taking-first, taking-later}
 use Rattle.stretches.specs.Laziness.{Agree}
@@ -120,15 +120,15 @@ module _ (ls ms : List (List Stretch)) where
   shrinks-agree {c} {ks} (shrink-over k w) b a =
       let u = advance-agrees starts_first ks b a in
       record {
-        also = subst (λ (js : List ℕ). ShrinkGives ms c ks 1 (record { answer = At c; counts = js })) (sym u.same)
-            (shrink-over (subst (λ fs. is_top (top starts_first fs) c ≡ false) u.now k) (subst (λ fs. contains (At c) (span fs) ≡ false) u.next w));
+        also = subst (λ (js : List ℕ). ShrinkGives ms c ks 1 (record { answer = Some c; counts = js })) (sym u.same)
+            (shrink-over (subst (λ fs. is_top (top starts_first fs) c ≡ false) u.now k) (subst (λ fs. contains (Some c) (span fs) ≡ false) u.next w));
         back = u.back;
       }
   shrinks-agree {c} {ks} {r = r} (shrink-on {x = x} {n = n} k e j s) b a =
       let h = shrinks-agree s (more-begun (top_index starts_first (fronts ls ks)) ks b) a in
       let u = advance-agrees starts_first ks b h.back in
       record {
-        also = shrink-on (subst (λ fs. is_top (top starts_first fs) c ≡ false) u.now k) (subst (λ fs. span fs ≡ At x) u.next e) j (subst (λ ks. ShrinkGives ms x ks n r) u.same h.also);
+        also = shrink-on (subst (λ fs. is_top (top starts_first fs) c ≡ false) u.now k) (subst (λ fs. span fs ≡ Some x) u.next e) j (subst (λ ks. ShrinkGives ms x ks n r) u.same h.also);
         back = u.back;
       }
 

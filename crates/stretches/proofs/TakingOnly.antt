@@ -6,7 +6,7 @@ use mathlib.Core.Bool.{true, false, true≢false}
 use mathlib.Core.List.{List}
 use native.Mathlib.Omega.{arith}
 use Rattle.stretches.specs.Stretch.{Keep, Then, Row, Stretch, inside, Op, Or, And}
-use Rattle.stretches.specs.Front.{Front, None, At}
+use Rattle.stretches.specs.Front.{Front, None, Some}
 use Rattle.stretches.specs.Taking.{AnswerCounts, Order, starts_first, contains, advance, total, or_hand, HasTaking, taking}
 use Rattle.stretches.specs.Loops.{SkipGives, skip-over, skip-on, ShrinkGives, shrink-top, shrink-over, shrink-on, NextGives, or-next, and_none, and-next, TakingGives, taking-first, taking-later}
 use Rattle.stretches.proofs.TakingLoops.{taking-gives}
@@ -19,8 +19,8 @@ module _ (ls : List (List Stretch)) where
   skips-one (skip-on k s) (skip-on k' s') = let e = skips-one s s' in (e.0, ap suc e.1)
 
   -- not both lies the span in c and does not
-  not-both : (c : Stretch) {g : Front} {x : Stretch} → g ≡ At x → inside x c ≡ true → contains (At c) g ≡ false → ⊥
-  not-both c e j w = true≢false (sym j ∙ ap (contains (At c)) (sym e) ∙ w)
+  not-both : (c : Stretch) {g : Front} {x : Stretch} → g ≡ Some x → inside x c ≡ true → contains (Some c) g ≡ false → ⊥
+  not-both c e j w = true≢false (sym j ∙ ap (contains (Some c)) (sym e) ∙ w)
 
   shrinks-one : {c : Stretch} {ks : List ℕ} {n n' : ℕ} {r r' : AnswerCounts} → ShrinkGives ls c ks n r → ShrinkGives ls c ks n' r' → (r ≡ r') × (n ≡ n')
   shrinks-one (shrink-top k) (shrink-top k') = (refl, refl)

@@ -8,7 +8,7 @@ use mathlib.Core.List.{List, [], ◌∷◌, ◌++◌, map}
 use lib.ListN.{length}
 use native.Mathlib.Omega.{arith}
 use Rattle.stretches.specs.Stretch.{Stretch, In, Above, Rising, AllRising, AllSound, inside, together, And, answers}
-use Rattle.stretches.specs.Front.{At, nth}
+use Rattle.stretches.specs.Front.{Some, nth}
 use Rattle.stretches.specs.Taking.{taking}
 use Rattle.stretches.specs.Laziness.{inside_at, TakenTo, Reaches, EachReaches, to_first, each_to_first}
 use Rattle.basics.proofs.Basics.{cases, le-or-lt}
@@ -132,13 +132,13 @@ module _ (c : Stretch) where
 
 -- ── Answer number p of and ──
 
-module _ (ls : List (List Stretch)) (r : AllRising ls) (d : AllSound ls) (p : ℕ) (c : Stretch) (h : nth (answers And ls) p ≡ At c) where
+module _ (ls : List (List Stretch)) (r : AllRising ls) (d : AllSound ls) (p : ℕ) (c : Stretch) (h : nth (answers And ls) p ≡ Some c) where
   -- the lists parted when it is handed out
   record Reached : Type 0 where
     parts : List Part
     parted : Parted ls (taking And ls p).counts parts
     read : ListsReach c parts
-    how : HandedBy ls (At c) parts
+    how : HandedBy ls (Some c) parts
 
   at-answer : Reached
   at-answer =
@@ -161,7 +161,7 @@ module _ (ls : List (List Stretch)) (r : AllRising ls) (d : AllSound ls) (p : �
   pub exact-there : In c.start c.end (together ls) → (taking And ls p).counts ≡ each_to_first c ls
   exact-there m = let a = at-answer in sym a.parted.counts ∙ a.read.exact (early a.parts a.how) ∙ ap (each_to_first c) a.parted.wholes
     where
-      early : (zs : List Part) → HandedBy ls (At c) zs → (s e : ℕ) → InAny s e (map done zs) → s < c.start
+      early : (zs : List Part) → HandedBy ls (Some c) zs → (s e : ℕ) → InAny s e (map done zs) → s < c.start
       early zs (inl k) = k.1
       early zs (inr k) = absurd (k.0 (in-together ls c.start c.end m))
 
@@ -169,6 +169,6 @@ module _ (ls : List (List Stretch)) (r : AllRising ls) (d : AllSound ls) (p : �
   pub exact-only : (taking And ls p).counts ≡ each_to_first c ls → In c.start c.end (together ls)
   exact-only w = let a = at-answer in go a.parts a.how (λ e m. a.read.beyond e m (a.parted.counts ∙ w ∙ ap (each_to_first c) (sym a.parted.wholes)))
     where
-      go : (zs : List Part) → HandedBy ls (At c) zs → ((e : ℕ) → InAny c.start e (map done zs) → ⊥) → In c.start c.end (together ls)
+      go : (zs : List Part) → HandedBy ls (Some c) zs → ((e : ℕ) → InAny c.start e (map done zs) → ⊥) → In c.start c.end (together ls)
       go zs (inl k) f = together-in ls c.start c.end k.0
       go zs (inr k) f = absurd (f k.1.0 k.1.1)

@@ -7,7 +7,7 @@ use mathlib.Core.Bool.{cond}
 use mathlib.Core.List.{List, [], ◌∷◌, map}
 use native.Mathlib.Omega.{arith}
 use Rattle.stretches.specs.Stretch.{Stretch, st, In, Rising, AllRising, low, high, linked, anyhow}
-use Rattle.stretches.specs.Front.{Front, None, At}
+use Rattle.stretches.specs.Front.{Front, None, Some}
 use Rattle.stretches.specs.Taking.{Order, starts_first, leads, top, join, span}
 use Rattle.basics.proofs.Basics.{cases, le-or-lt}
 use Rattle.stretches.proofs.Tuples.{InAny, Picks, Span, in-append, append_right}
@@ -19,22 +19,22 @@ use Rattle.stretches.proofs.TakingQueue.{Part, part, done, left, whole, front, P
 -- ── The span of the tops ──
 
 -- the span ends no earlier than the top
-pub span-ends : (o : Order) (fs : List Front) (x y : Stretch) → span fs ≡ At x → top o fs ≡ At y → y.end ≤ x.end
+pub span-ends : (o : Order) (fs : List Front) (x y : Stretch) → span fs ≡ Some x → top o fs ≡ Some y → y.end ≤ x.end
 span-ends o [] x y h k = let z : ◌≡◌ {A = ℕ} 0 1 = cc in absurd (omega arith)
 span-ends o (None ∷ []) x y h k = let z : ◌≡◌ {A = ℕ} 0 1 = cc in absurd (omega arith)
-span-ends o (At v ∷ []) x y h k = let e : y ≡ x = cc in omega (arith, ap (λ (z : Stretch). z.end) e)
+span-ends o (Some v ∷ []) x y h k = let e : y ≡ x = cc in omega (arith, ap (λ (z : Stretch). z.end) e)
 span-ends o (None ∷ (g ∷ fs)) x y h k = let z : ◌≡◌ {A = ℕ} 0 1 = cc in absurd (omega arith)
-span-ends o (At v ∷ (g ∷ fs)) x y h k = go (span (g ∷ fs)) (top o (g ∷ fs)) (span-ends o (g ∷ fs)) h k
+span-ends o (Some v ∷ (g ∷ fs)) x y h k = go (span (g ∷ fs)) (top o (g ∷ fs)) (span-ends o (g ∷ fs)) h k
   where
-    go : (f t : Front) → ((x y : Stretch) → f ≡ At x → t ≡ At y → y.end ≤ x.end) → join (At v) f ≡ At x → cond (leads o (At v) t) (At v) t ≡ At y → y.end ≤ x.end
+    go : (f t : Front) → ((x y : Stretch) → f ≡ Some x → t ≡ Some y → y.end ≤ x.end) → join (Some v) f ≡ Some x → cond (leads o (Some v) t) (Some v) t ≡ Some y → y.end ≤ x.end
     go None t i h k = let z : ◌≡◌ {A = ℕ} 0 1 = cc in absurd (omega arith)
-    go (At a) None i h k =
+    go (Some a) None i h k =
         let e : st (min v.start a.start) (max v.end a.end) ≡ x = cc in
         let e' : v ≡ y = cc in
         omega (arith, ap (λ (z : Stretch). z.end) e, ap (λ (z : Stretch). z.end) e')
-    go (At a) (At b) i h k =
+    go (Some a) (Some b) i h k =
         let e : st (min v.start a.start) (max v.end a.end) ≡ x = cc in
-        cases (o v b) (λ c. cond c (At v) (At b) ≡ At y → y.end ≤ x.end)
+        cases (o v b) (λ c. cond c (Some v) (Some b) ≡ Some y → y.end ≤ x.end)
         (λ _ k. let e' : v ≡ y = cc in omega (arith, ap (λ (z : Stretch). z.end) e, ap (λ (z : Stretch). z.end) e'))
         (λ _ k. let e' : b ≡ y = cc in omega (arith, ap (λ (z : Stretch). z.end) e, ap (λ (z : Stretch). z.end) e', i a b refl refl)) k
 
@@ -51,7 +51,7 @@ head-least : (y : Stretch) (q : List Stretch) → Rising (y ∷ q) → (s e : �
 head-least y q r s e (inl h) = (omega arith, omega arith)
 head-least y q r s e (inr m) = let k = r.0 s e m in (omega arith, omega arith)
 
-span-spans : (zs : List Part) → AllRising (map left zs) → (x : Stretch) → span (map front zs) ≡ At x → Spans zs x
+span-spans : (zs : List Part) → AllRising (map left zs) → (x : Stretch) → span (map front zs) ≡ Some x → Spans zs x
 span-spans [] r x h = let z : ◌≡◌ {A = ℕ} 0 1 = cc in absurd (omega arith)
 span-spans (part d [] ∷ []) r x h = let z : ◌≡◌ {A = ℕ} 0 1 = cc in absurd (omega arith)
 span-spans (part d [] ∷ (w ∷ zs)) r x h = let z : ◌≡◌ {A = ℕ} 0 1 = cc in absurd (omega arith)
@@ -62,9 +62,9 @@ span-spans (part d (y ∷ q) ∷ []) r x h = let e : y ≡ x = cc in subst (Span
     under s e (inr m) = absurd m
 span-spans (part d (y ∷ q) ∷ (w ∷ zs)) r x h = go (span (map front (w ∷ zs))) (span-spans (w ∷ zs) r.1) h
   where
-    go : (g : Front) → ((x : Stretch) → g ≡ At x → Spans (w ∷ zs) x) → join (At y) g ≡ At x → Spans (part d (y ∷ q) ∷ (w ∷ zs)) x
+    go : (g : Front) → ((x : Stretch) → g ≡ Some x → Spans (w ∷ zs) x) → join (Some y) g ≡ Some x → Spans (part d (y ∷ q) ∷ (w ∷ zs)) x
     go None f h = let z : ◌≡◌ {A = ℕ} 0 1 = cc in absurd (omega arith)
-    go (At v) f h =
+    go (Some v) f h =
         let k = f v refl in
         let e : st (min y.start v.start) (max y.end v.end) ≡ x = cc in
         subst (Spans (part d (y ∷ q) ∷ (w ∷ zs))) e (record {
@@ -81,7 +81,7 @@ span-spans (part d (y ∷ q) ∷ (w ∷ zs)) r x h = go (span (map front (w ∷ 
         under k s e (inr m) = omega (arith, k.under s e m)
 
 -- where a tuple of what is left is, the tops have a span, and it ends no later
-span-under : (zs : List Part) → AllRising (map left zs) → (a : Stretch) (u : List Stretch) → Picks (a ∷ u) (map left zs) → (x : Stretch) × (span (map front zs) ≡ At x) × (x.end ≤ high a u)
+span-under : (zs : List Part) → AllRising (map left zs) → (a : Stretch) (u : List Stretch) → Picks (a ∷ u) (map left zs) → (x : Stretch) × (span (map front zs) ≡ Some x) × (x.end ≤ high a u)
 span-under [] r a u p = absurd p
 span-under (part d [] ∷ zs) r a u p = absurd p.0
 span-under (part d (y ∷ q) ∷ []) r a [] p = (y, refl, (head-least y q r.0 a.start a.end p.0).1)
@@ -90,7 +90,7 @@ span-under (part d (y ∷ q) ∷ (w ∷ zs)) r a [] p = absurd p.1
 span-under (part d (y ∷ q) ∷ (w ∷ zs)) r a (b ∷ u) p =
     let k = span-under (w ∷ zs) r.1 b u p.1 in
     let i = (head-least y q r.0 a.start a.end p.0).1 in
-    (st (min y.start k.0.start) (max y.end k.0.end), ap (join (At y)) k.1, omega (arith, k.2))
+    (st (min y.start k.0.start) (max y.end k.0.end), ap (join (Some y)) k.1, omega (arith, k.2))
 
 -- ── Tuples of the lists, and of what is left ──
 
@@ -128,10 +128,10 @@ picks-past (l ∷ ls) r s e n (inr m) (a ∷ u) h f g = picks-past ls r.1 s e n 
 
 module _ (ls : List (List Stretch)) (r : AllRising ls) (ks : List ℕ) (zs : List Part) (p : Parted ls ks zs) where
   -- the span of the tops is a candidate, and starts with the top
-  pub span-is : (x : Stretch) → span (map front zs) ≡ At x → Spans zs x
+  pub span-is : (x : Stretch) → span (map front zs) ≡ Some x → Spans zs x
   span-is x h = span-spans zs (parted-rising ls ks zs p r) x h
 
-  pub span-cand : (x : Stretch) → span (map front zs) ≡ At x → Span (linked anyhow) ls x.start x.end
+  pub span-cand : (x : Stretch) → span (map front zs) ≡ Some x → Span (linked anyhow) ls x.start x.end
   span-cand x h = let k = span-is x h in record {
     first = k.first;
     rest = k.rest;
@@ -141,10 +141,10 @@ module _ (ls : List (List Stretch)) (r : AllRising ls) (ks : List ℕ) (zs : Lis
     ends = k.ends;
   }
 
-  pub span-from : (m : ℕ) (x : Stretch) → span (map front zs) ≡ At x → ((s e : ℕ) → InAny s e (map left zs) → m ≤ s) → m ≤ x.start
+  pub span-from : (m : ℕ) (x : Stretch) → span (map front zs) ≡ Some x → ((s e : ℕ) → InAny s e (map left zs) → m ≤ s) → m ≤ x.start
   span-from m x h f = let k = span-is x h in omega (arith, k.starts, from_low m k.first k.rest (picks-from m zs (k.first ∷ k.rest) f k.picks))
 
-  pub top_start : (x y : Stretch) → span (map front zs) ≡ At x → top starts_first (map front zs) ≡ At y → y.start ≡ x.start
+  pub top_start : (x y : Stretch) → span (map front zs) ≡ Some x → top starts_first (map front zs) ≡ Some y → y.start ≡ x.start
   top_start x y h k =
       omega (
         arith,
@@ -153,7 +153,7 @@ module _ (ls : List (List Stretch)) (r : AllRising ls) (ks : List ℕ) (zs : Lis
       )
 
   -- each candidate from t on has a span of the tops that ends no later
-  cand-span : (t : ℕ) → ((s e : ℕ) → InAny s e (map done zs) → s < t) → (s e : ℕ) → Span (linked anyhow) ls s e → t ≤ s → (x : Stretch) × (span (map front zs) ≡ At x) × (x.end ≤ e)
+  cand-span : (t : ℕ) → ((s e : ℕ) → InAny s e (map done zs) → s < t) → (s e : ℕ) → Span (linked anyhow) ls s e → t ≤ s → (x : Stretch) × (span (map front zs) ≡ Some x) × (x.end ≤ e)
   cand-span t f s e c q =
       let k = span-under zs (parted-rising ls ks zs p r) c.first c.rest
       (picks-left t zs (c.first ∷ c.rest) f (low-from t c.first c.rest (omega (arith, c.starts))) (subst (Picks (c.first ∷ c.rest)) (sym p.wholes) c.picks)) in
@@ -166,5 +166,5 @@ module _ (ls : List (List Stretch)) (r : AllRising ls) (ks : List ℕ) (zs : Lis
       go (inl q) = let k = cand-span t f s e c q in let z : ◌≡◌ {A = ℕ} 0 1 = cc k.1 in absurd (omega arith)
       go (inr q) = q
 
-  pub cand-least : (t : ℕ) → ((s e : ℕ) → InAny s e (map done zs) → s < t) → (x : Stretch) → span (map front zs) ≡ At x → (s e : ℕ) → Span (linked anyhow) ls s e → t ≤ s → x.end ≤ e
+  pub cand-least : (t : ℕ) → ((s e : ℕ) → InAny s e (map done zs) → s < t) → (x : Stretch) → span (map front zs) ≡ Some x → (s e : ℕ) → Span (linked anyhow) ls s e → t ≤ s → x.end ≤ e
   cand-least t f x h s e c q = let k = cand-span t f s e c q in let w : k.0 ≡ x = cc k.1 in omega (arith, k.2, ap (λ (v : Stretch). v.end) w)

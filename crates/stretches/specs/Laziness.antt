@@ -2,7 +2,7 @@
 -- Assumes nothing.
 use Rattle.std.specs.Prelude.{ℕ, suc, ◌<◌, ◌≡◌, ◌⊎◌, true, cond, List, [], ◌∷◌, map}
 use Rattle.stretches.specs.Stretch.{Stretch, inside}
-use Rattle.stretches.specs.Front.{At, nth}
+use Rattle.stretches.specs.Front.{Some, nth}
 
 -- ── and: the items taken reach the first one inside the answer ──
 
@@ -25,7 +25,7 @@ TakenTo c x n k = (k ≡ n) ⊎ ((k ≡ suc n) × (x.start ≡ c.start))
 -- when the answer c is handed out, the k items taken of a list reach the first one inside c, with at most one beyond it
 pub record Reaches (c : Stretch) (l : List Stretch) (k : ℕ) : Type 0 where
   pub first : Stretch
-  pub there : nth l (inside_at c l) ≡ At first
+  pub there : nth l (inside_at c l) ≡ Some first
   pub within : inside first c ≡ true
   pub taken : TakenTo c first (to_first c l) k
 

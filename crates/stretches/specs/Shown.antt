@@ -1,7 +1,7 @@
 -- What an operator shows of its operands for one of its answers: docs/FORMATS.md, "The lines that made a stretch". Assumes nothing.
 use Rattle.std.specs.Prelude.{min, max, ◌≡◌, refl, Bool, true, false, cond, ◌||◌, List, [], ◌∷◌, map, eqb, take}
 use Rattle.stretches.specs.Stretch.{Stretch, st, inside, same, adjoins, follows, Beside, Alone, Holder, Inner, Op, Or, And, Row, Then, Keep, Less, Inside, Outside, Holding, answers}
-use Rattle.stretches.specs.Front.{Front, None, At, first_that, nth}
+use Rattle.stretches.specs.Front.{Front, None, Some, first_that, nth}
 
 -- x is in the list
 abbrev pub is_in : Stretch → List Stretch → Bool
@@ -15,7 +15,7 @@ nothing ls = map (λ l. None) ls
 -- or: its first operand that has the same stretch, and nothing of the others
 abbrev pub shown_or : Stretch → List (List Stretch) → List Front
 shown_or x [] = []
-shown_or x (l ∷ ls) = cond (is_in x l) (At x ∷ nothing ls) (None ∷ shown_or x ls)
+shown_or x (l ∷ ls) = cond (is_in x l) (Some x ∷ nothing ls) (None ∷ shown_or x ls)
 
 -- and: each operand's first stretch inside
 abbrev pub shown_and : Stretch → List (List Stretch) → List Front
@@ -24,7 +24,7 @@ shown_and x ls = map (first_that (λ y. inside y x)) ls
 -- row and then: each next operand's first stretch allowed, given the one before; behind none there is none
 abbrev pub next_shown : (Stretch → Stretch → Bool) → Front → List Stretch → Front
 next_shown f None l = None
-next_shown f (At a) l = first_that (f a) l
+next_shown f (Some a) l = first_that (f a) l
 
 abbrev pub shown_after : (Stretch → Stretch → Bool) → Front → List (List Stretch) → List Front
 shown_after f g [] = []
@@ -47,7 +47,7 @@ proves Inner x y = inside y x
 -- the filters: A's, and of B the first that proves it: of `in` the first that holds it, of `has` the first inside it, else nothing
 abbrev pub shown_first : Beside → Stretch → List (List Stretch) → List Front
 shown_first b x [] = []
-shown_first b x (l ∷ ls) = At x ∷ map (first_that (proves b x)) ls
+shown_first b x (l ∷ ls) = Some x ∷ map (first_that (proves b x)) ls
 
 -- what is shown of each operand, given their lists and the answer
 abbrev pub shown_below : Op → List (List Stretch) → Stretch → List Front
@@ -74,13 +74,13 @@ spanning b l = cond b (take 1 l) l
 -- it is there and passes the test
 abbrev pub Proved : (Stretch → Bool) → Front → Type 0
 Proved f None = ⊥
-Proved f (At y) = f y ≡ true
+Proved f (Some y) = f y ≡ true
 
 -- the span of those that are there: the least start and the greatest end; none where none is
 abbrev pub spanned : Front → Front → Front
 spanned None g = g
-spanned (At x) None = At x
-spanned (At x) (At y) = At (st (min x.start y.start) (max x.end y.end))
+spanned (Some x) None = Some x
+spanned (Some x) (Some y) = Some (st (min x.start y.start) (max x.end y.end))
 
 abbrev pub span_of : List Front → Front
 span_of [] = None
@@ -93,38 +93,38 @@ abbrev ex_lists : List (List Stretch)
 ex_lists = (st 0 0 ∷ st 3 4 ∷ []) ∷ (st 4 4 ∷ st 5 5 ∷ st 7 7 ∷ []) ∷ (st 5 5 ∷ st 6 6 ∷ []) ∷ []
 
 -- B and C have line 5: B, and nothing of C
-ex-or : (nth (answers Or ex_lists) 2 ≡ At (st 5 5)) × (shown_below Or ex_lists (st 5 5) ≡ None ∷ At (st 5 5) ∷ None ∷ [])
+ex-or : (nth (answers Or ex_lists) 2 ≡ Some (st 5 5)) × (shown_below Or ex_lists (st 5 5) ≡ None ∷ Some (st 5 5) ∷ None ∷ [])
 ex-or = (refl, refl)
 
 -- B has 4 and 5 inside: the first
-ex-and : (nth (answers And ex_lists) 0 ≡ At (st 3 5)) × (shown_below And ex_lists (st 3 5) ≡ At (st 3 4) ∷ At (st 4 4) ∷ At (st 5 5) ∷ [])
+ex-and : (nth (answers And ex_lists) 0 ≡ Some (st 3 5)) × (shown_below And ex_lists (st 3 5) ≡ Some (st 3 4) ∷ Some (st 4 4) ∷ Some (st 5 5) ∷ [])
 ex-and = (refl, refl)
 
 -- A's at line 3, not its first; B's 4 and C's 5 are not past the one before, and B's 5 comes before its 7
-ex-then : (nth (answers Then ex_lists) 1 ≡ At (st 3 6)) × (shown_below Then ex_lists (st 3 6) ≡ At (st 3 4) ∷ At (st 5 5) ∷ At (st 6 6) ∷ [])
+ex-then : (nth (answers Then ex_lists) 1 ≡ Some (st 3 6)) × (shown_below Then ex_lists (st 3 6) ≡ Some (st 3 4) ∷ Some (st 5 5) ∷ Some (st 6 6) ∷ [])
 ex-then = (refl, refl)
 
-ex-row : (nth (answers Row ex_lists) 0 ≡ At (st 3 6)) × (shown_below Row ex_lists (st 3 6) ≡ At (st 3 4) ∷ At (st 5 5) ∷ At (st 6 6) ∷ [])
+ex-row : (nth (answers Row ex_lists) 0 ≡ Some (st 3 6)) × (shown_below Row ex_lists (st 3 6) ≡ Some (st 3 4) ∷ Some (st 5 5) ∷ Some (st 6 6) ∷ [])
 ex-row = (refl, refl)
 
 -- B's 3..5 starts where A's 3..4 does, but is not inside it
-ex-less : (nth (answers Less ((st 3 4 ∷ []) ∷ (st 3 5 ∷ []) ∷ [])) 0 ≡ At (st 3 4)) × (shown_below Less ((st 3 4 ∷ []) ∷ (st 3 5 ∷ []) ∷ []) (st 3 4) ≡ At (st 3 4) ∷ None ∷ [])
+ex-less : (nth (answers Less ((st 3 4 ∷ []) ∷ (st 3 5 ∷ []) ∷ [])) 0 ≡ Some (st 3 4)) × (shown_below Less ((st 3 4 ∷ []) ∷ (st 3 5 ∷ []) ∷ []) (st 3 4) ≡ Some (st 3 4) ∷ None ∷ [])
 ex-less = (refl, refl)
 
 -- B's 0..1 and 5..13 do not hold A's 3..5, 1..9 is the first of two that do; what is shown of B does not count for the span
 abbrev ex_held : List (List Stretch)
 ex_held = (st 3 5 ∷ []) ∷ (st 0 1 ∷ st 1 9 ∷ st 2 12 ∷ st 5 13 ∷ []) ∷ []
 
-ex-in : (answers Inside ex_held ≡ st 3 5 ∷ []) × (shown_below Inside ex_held (st 3 5) ≡ At (st 3 5) ∷ At (st 1 9) ∷ []) × (span_of (spanning (proven Inside) (shown_below Inside ex_held (st 3 5))) ≡ At (st 3 5))
+ex-in : (answers Inside ex_held ≡ st 3 5 ∷ []) × (shown_below Inside ex_held (st 3 5) ≡ Some (st 3 5) ∷ Some (st 1 9) ∷ []) × (span_of (spanning (proven Inside) (shown_below Inside ex_held (st 3 5))) ≡ Some (st 3 5))
 ex-in = (refl, refl, refl)
 
 -- 5..13 shares line 5 and does not hold 3..5
-ex-out : (answers Outside ((st 3 5 ∷ []) ∷ (st 5 13 ∷ []) ∷ []) ≡ st 3 5 ∷ []) × (shown_below Outside ((st 3 5 ∷ []) ∷ (st 5 13 ∷ []) ∷ []) (st 3 5) ≡ At (st 3 5) ∷ None ∷ [])
+ex-out : (answers Outside ((st 3 5 ∷ []) ∷ (st 5 13 ∷ []) ∷ []) ≡ st 3 5 ∷ []) × (shown_below Outside ((st 3 5 ∷ []) ∷ (st 5 13 ∷ []) ∷ []) (st 3 5) ≡ Some (st 3 5) ∷ None ∷ [])
 ex-out = (refl, refl)
 
 -- B's 0..1 reaches out of A's 1..6, 2..2 is the first of two inside
-ex-has : (answers Holding ((st 1 6 ∷ []) ∷ (st 0 1 ∷ st 2 2 ∷ st 6 6 ∷ []) ∷ []) ≡ st 1 6 ∷ []) × (shown_below Holding ((st 1 6 ∷ []) ∷ (st 0 1 ∷ st 2 2 ∷ st 6 6 ∷ []) ∷ []) (st 1 6) ≡ At (st 1 6) ∷ At (st 2 2) ∷ [])
+ex-has : (answers Holding ((st 1 6 ∷ []) ∷ (st 0 1 ∷ st 2 2 ∷ st 6 6 ∷ []) ∷ []) ≡ st 1 6 ∷ []) × (shown_below Holding ((st 1 6 ∷ []) ∷ (st 0 1 ∷ st 2 2 ∷ st 6 6 ∷ []) ∷ []) (st 1 6) ≡ Some (st 1 6) ∷ Some (st 2 2) ∷ [])
 ex-has = (refl, refl)
 
-ex-span : span_of (None ∷ At (st 2 4) ∷ At (st 1 3) ∷ []) ≡ At (st 1 4)
+ex-span : span_of (None ∷ Some (st 2 4) ∷ Some (st 1 3) ∷ []) ≡ Some (st 1 4)
 ex-span = refl

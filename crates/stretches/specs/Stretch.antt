@@ -2,11 +2,7 @@
 -- Boldi and Vigna, "Efficient Optimally Lazy Algorithms for Minimal-Interval Semantics".
 -- Assumes nothing.
 use Rattle.std.specs.Prelude.{ℕ, suc, ◌-◌, ◌≤◌, ◌<◌, min, max, ◌≡◌, ◌⊎◌, Bool, true, false, not, cond, ◌&&◌, ◌||◌, List, [], ◌∷◌, ◌++◌, map, leb, ltb, eqb}
-
--- the lines from start to end, both included
-pub record Stretch : Type 0 where
-  pub start : ℕ
-  pub end : ℕ
+pub use Rattle.stretches.specs.declared.Stretch.{Stretch}
 
 abbrev pub st : ℕ → ℕ → Stretch
 st s e = record { start = s; end = e }

@@ -1,25 +1,32 @@
--- A table of nodes in five columns of 32 numbers, and the list that each node stands for. Assumes nothing.
-use Rattle.std.specs.Prelude.{ℕ, zero, suc, ◌+◌, ◌-◌, ◌≡◌, refl, Bool, cond, ◌&&◌, ◌||◌, List, [], ◌∷◌, ◌++◌, length, get_or, replicate, leb, ltb, eqb}
+-- A table of 32 nodes, and the list that each stands for. Assumes nothing.
+use Rattle.std.specs.Prelude.{ℕ, zero, suc, ◌+◌, ◌-◌, ◌≡◌, refl, Bool, cond, ◌&&◌, ◌||◌, List, [], ◌∷◌, get_or, replicate, leb, ltb, eqb}
+use Rattle.stretches.specs.declared.Node.{Node}
 use Rattle.stretches.specs.Stretch.{Stretch, st, length_of}
 use Rattle.stretches.specs.Operators.{operator_of, apply}
 
--- ── The columns ──
+-- ── The nodes ──
+
+abbrev pub no_node : Node
+no_node = record { kind = 0; size = 0; first = 0; second = 0; third = 0 }
+
+abbrev pub node_at : List Node → ℕ → Node
+node_at rows v = get_or rows v no_node
 
 -- node v's kind, an operator's number or another; the size of its subtree; its numbers
-abbrev pub kind_at : List ℕ → ℕ → ℕ
-kind_at rows v = get_or rows v 0
+abbrev pub kind_at : List Node → ℕ → ℕ
+kind_at rows v = (node_at rows v).kind
 
-abbrev pub size_at : List ℕ → ℕ → ℕ
-size_at rows v = get_or rows (32 + v) 0
+abbrev pub size_at : List Node → ℕ → ℕ
+size_at rows v = (node_at rows v).size
 
-abbrev pub first_at : List ℕ → ℕ → ℕ
-first_at rows v = get_or rows (64 + v) 0
+abbrev pub first_at : List Node → ℕ → ℕ
+first_at rows v = (node_at rows v).first
 
-abbrev pub second_at : List ℕ → ℕ → ℕ
-second_at rows v = get_or rows (96 + v) 0
+abbrev pub second_at : List Node → ℕ → ℕ
+second_at rows v = (node_at rows v).second
 
-abbrev pub third_at : List ℕ → ℕ → ℕ
-third_at rows v = get_or rows (128 + v) 0
+abbrev pub third_at : List Node → ℕ → ℕ
+third_at rows v = (node_at rows v).third
 
 -- the kinds of a pattern's leaves
 abbrev pub leaf_kind : ℕ → Bool
@@ -40,15 +47,15 @@ proof_kind k = eqb k 7 || eqb k 9
 -- ── Operands: the first stands behind its operator, each next one behind the subtree of the one before ──
 
 -- the place behind c's subtree: past c, and at most 32; 32 where there is no node c
-unfoldable pub next_of : List ℕ → ℕ → ℕ
+unfoldable pub next_of : List Node → ℕ → ℕ
 next_of rows c = cond (ltb c 32) (cond (eqb (size_at rows c) 0) (c + 1) (cond (leb (size_at rows c) (32 - c)) (c + size_at rows c) 32)) 32
 
 -- the place behind v's operands; 32 where there is no node v
-unfoldable pub stop_of : List ℕ → ℕ → ℕ
+unfoldable pub stop_of : List Node → ℕ → ℕ
 stop_of rows v = cond (ltb v 32) (cond (leb (size_at rows v) (32 - v)) (v + size_at rows v) 32) 32
 
 -- of what there is of each node from u on, that of the operands from c on up to stop
-unfoldable pub operands : {A : Type 0} → List ℕ → ℕ → ℕ → ℕ → List A → List A
+unfoldable pub operands : {A : Type 0} → List Node → ℕ → ℕ → ℕ → List A → List A
 operands rows stop c u [] = []
 operands rows stop c u (x ∷ xs) = cond (eqb u c && ltb c stop) (x ∷ operands rows stop (next_of rows c) (suc u) xs) (operands rows stop c (suc u) xs)
 
@@ -58,10 +65,10 @@ numbers c zero = []
 numbers c (suc n) = c ∷ numbers (suc c) n
 
 -- the numbers of the operands from c on, and of all of v's
-unfoldable pub operands_up : List ℕ → ℕ → ℕ → List ℕ
+unfoldable pub operands_up : List Node → ℕ → ℕ → List ℕ
 operands_up rows stop c = operands rows stop c c (numbers c (32 - c))
 
-abbrev pub operand_numbers : List ℕ → ℕ → List ℕ
+abbrev pub operand_numbers : List Node → ℕ → List ℕ
 operand_numbers rows v = operands_up rows (stop_of rows v) (v + 1)
 
 -- ── Lists ──
@@ -72,30 +79,30 @@ pub record Given : Type 0 where
   pub measure : Stretch → ℕ
 
 -- node v's list, the lists of all later nodes being given
-abbrev pub node_list : Given → List ℕ → ℕ → List (List Stretch) → List Stretch
+abbrev pub node_list : Given → List Node → ℕ → List (List Stretch) → List Stretch
 node_list g rows v later = apply (operator_of g.measure (kind_at rows v) (first_at rows v)) (g.own v) (operands rows (stop_of rows v) (v + 1) (v + 1) later)
 
 -- with node v's list in front
-abbrev pub with_node : Given → List ℕ → ℕ → List (List Stretch) → List (List Stretch)
+abbrev pub with_node : Given → List Node → ℕ → List (List Stretch) → List (List Stretch)
 with_node g rows v later = node_list g rows v later ∷ later
 
 -- the lists of the last n nodes, made from the last node to the first
-unfoldable pub last_lists : Given → List ℕ → ℕ → List (List Stretch)
+unfoldable pub last_lists : Given → List Node → ℕ → List (List Stretch)
 last_lists g rows zero = []
 last_lists g rows (suc n) = with_node g rows (31 - n) (last_lists g rows n)
 
 -- the list that node v stands for
-unfoldable pub list_at : Given → List ℕ → ℕ → List Stretch
+unfoldable pub list_at : Given → List Node → ℕ → List Stretch
 list_at g rows v = get_or (last_lists g rows 32) v []
 
 -- ── An example ──
 
-abbrev column : List ℕ → List ℕ
-column l = l ++ replicate (32 - length l) 0
-
 -- less of then(node 2, node 3) by node 4
-abbrev sample : List ℕ
-sample = column (5 ∷ 4 ∷ 16 ∷ 16 ∷ 16 ∷ []) ++ column (5 ∷ 3 ∷ 1 ∷ 1 ∷ 1 ∷ []) ++ replicate 96 0
+abbrev node : ℕ → ℕ → Node
+node kind size = record { kind = kind; size = size; first = 0; second = 0; third = 0 }
+
+abbrev sample : List Node
+sample = node 5 5 ∷ node 4 3 ∷ node 16 1 ∷ node 16 1 ∷ node 16 1 ∷ replicate 27 no_node
 
 -- lines 0 and 6; 2 and 8; 7
 abbrev owned : List (List Stretch)

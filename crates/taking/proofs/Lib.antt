@@ -1,4 +1,3 @@
-pub mod Queues
 pub mod Tops
 pub mod Turns
 pub mod Runs

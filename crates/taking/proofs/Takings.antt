@@ -1,33 +1,48 @@
 -- What an accepted taking call has, and what its result and cells then are. Assumes nothing.
 use Prim.Native.Nat.{ℕ, zero, suc, ◌≤◌}
-use mathlib.Core.Path.{◌≡◌, refl, sym, ap, ap₂, ◌∙◌}
-use mathlib.Core.Bool.{true, false, not, cond, ◌&&◌, ◌||◌}
+use mathlib.Core.Path.{◌≡◌, refl, sym, ap, ◌∙◌}
+use mathlib.Core.Bool.{true, false, true≢false, not, cond, ◌&&◌, ◌||◌}
 use mathlib.Core.List.{List, ◌++◌}
 use mathlib.Core.Option.{some}
 use native.Mathlib.Omega.{arith}
-use lib.ListN.{length, drop, take-append-drop}
+use lib.ListN.{length, drop}
 use lib.Dec.{leb, ltb, eqb}
 use borrow.Author.Tests.{eq-eqb, ne_eqb, leb-true, ltb-false, not-false}
+use Rattle.std.specs.Prelude.{Result, Ok, Err, IfErr}
+use Rattle.std.specs.Result.{IsErr}
 use Rattle.stretches.specs.Taking as algorithm
 use Rattle.stretches.specs.Taking.{taking}
 use Rattle.stretches.specs.Stretch.{length_of}
+use Rattle.stretches.specs.Front.{Front, None, Some}
 use Rattle.stretches.specs.Operators.{operator_of}
 use Rattle.stretches.specs.Lent.{lists_of}
 use Rattle.basics.proofs.Basics.{and-true, or-false}
+use Rattle.meaning.specs.declared.Refusal.{Refusal}
+use Rattle.meaning.specs.declared.Refusal.TheVariants.{LongLog, LongPattern, Misspelt, Crowded, Deep, Miscalled, Miscut, Disordered, BadCount}
 use Rattle.meaning.specs.Refusals.{takes_lists, miscalled_taking, taking_refusal}
-use Rattle.taking.specs.declared.queue.Item.{Item}
-use Rattle.taking.specs.declared.Taken.{Taken}
-use Rattle.taking.specs.Taking.{taken_by, given, not_taken, take_result, take_cells}
-use Rattle.taking.specs.inner.Queue.{front_of, op_of, Lent, handed, Handed}
-use Rattle.lent.proofs.Accepting.{accepted}
-use Rattle.taking.proofs.Tops.{front_at, front-none}
+use Rattle.meaning.specs.Replies.{number_of}
+use Rattle.taking.specs.Taking.{TakeReply, taken_by, take_reply, given, not_taken, take_result, take_cells}
+use Rattle.taking.specs.inner.Queue.{op_of, operator_at, handed}
+use Rattle.lent.proofs.Accepting.{Accepted, accepted}
+
+-- no refusal has the number 0
+pub numbered : (e : Refusal) → number_of e ≡ 0 → ⊥
+numbered LongLog h = absurd (omega arith)
+numbered LongPattern h = absurd (omega arith)
+numbered (Misspelt n) h = absurd (omega arith)
+numbered Crowded h = absurd (omega arith)
+numbered Deep h = absurd (omega arith)
+numbered Miscalled h = absurd (omega arith)
+numbered Miscut h = absurd (omega arith)
+numbered Disordered h = absurd (omega arith)
+numbered BadCount h = absurd (omega arith)
 
 module _ (op : ℕ) (items ends counts : List ℕ) (p : ℕ) where
-  module _ (n : ℕ) (is : n ≡ taking_refusal op items ends counts) (no : n ≡ 0 → ⊥) where
+  module _ (e : Refusal) (is : number_of e ≡ taking_refusal op items ends counts) where
     off : eqb (taking_refusal op items ends counts) 0 ≡ false
-    off = ne_eqb (taking_refusal op items ends counts) 0 (λ e. no (is ∙ e))
+    off = ne_eqb (taking_refusal op items ends counts) 0 (λ z. numbered e (is ∙ z))
 
-    pub take-refused : not_taken n ≡ take_result op items ends counts p
+    pub take-refused : take_reply (Err e) ≡ take_result op items ends counts p
     unfolding take_result
     take-refused = ap not_taken is ∙ sym (ap (λ b. cond b (given (taken_by (operator_of length_of op 0) (lists_of items ends) p).answer) (not_taken (taking_refusal op items ends counts))) off)
 
@@ -37,51 +52,66 @@ module _ (op : ℕ) (items ends counts : List ℕ) (p : ℕ) where
 
   -- or or and, over lists in order, with a count cell for each
   pub record Takes : Type 0 where
-    pub lent : Lent items ends counts
-    pub which : operator_of length_of op 0 ≡ some (op_of (eqb op 1))
+    pub lists : Accepted (miscalled_taking op ends counts) items ends
+    pub room : length ends ≤ length counts
+    pub which : operator_of length_of op 0 ≡ some (op_of (operator_at op))
 
-  two : (m : ℕ) → 1 ≤ m → m ≤ 2 → operator_of length_of m 0 ≡ some (op_of (eqb m 1))
+  two : (m : ℕ) → 1 ≤ m → m ≤ 2 → operator_of length_of m 0 ≡ some (op_of (operator_at m))
   two zero lo hi = absurd (omega arith)
   two (suc zero) lo hi = refl
   two (suc (suc zero)) lo hi = refl
   two (suc (suc (suc m))) lo hi = absurd (omega arith)
 
-  module _ (n : ℕ) (is : n ≡ taking_refusal op items ends counts) (yes : n ≡ 0) where
+  module _ (yes : taking_refusal op items ends counts ≡ 0) where
     on : eqb (taking_refusal op items ends counts) 0 ≡ true
-    on = eq-eqb (taking_refusal op items ends counts) 0 (sym is ∙ yes)
+    on = eq-eqb (taking_refusal op items ends counts) 0 yes
 
     pub takes : Takes
     unfolding taking_refusal
     takes =
-        let a = accepted (miscalled_taking op ends counts) items ends (sym is ∙ yes) in
+        let a = accepted (miscalled_taking op ends counts) items ends yes in
         let u = or-false (not (leb 1 op && leb op 2)) (not (takes_lists op (length ends)) || ltb (length counts) (length ends)) a.called in
         let v = and-true (leb 1 op) (leb op 2) (not-false (leb 1 op && leb op 2) u.0) in
         let w = or-false (not (takes_lists op (length ends))) (ltb (length counts) (length ends)) u.1 in
         record {
-          lent = record { cut = a.cut; order = a.order; room = ltb-false (length counts) (length ends) w.1 };
+          lists = a;
+          room = ltb-false (length counts) (length ends) w.1;
           which = two op (leb-true 1 op v.0) (leb-true op 2 v.1);
         }
 
-    module _ (counts' : List ℕ) (c : Item) (h : Handed (length ends) (taking (op_of (eqb op 1)) (lists_of items ends) p) counts counts' c) where
-      -- the algorithm's answer and counts
-      ran : taken_by (operator_of length_of op 0) (lists_of items ends) p ≡ handed (length ends) counts' c
-      ran = ap (λ o. taken_by o (lists_of items ends) p) takes.which ∙ sym h.is
+    -- what the run handed out, over these lists
+    module _ (g : Front) (ks : List ℕ) (h : handed g ks ≡ taking (op_of (operator_at op)) (lists_of items ends) p) where
+      ran : taken_by (operator_of length_of op 0) (lists_of items ends) p ≡ handed g ks
+      ran = ap (λ o. taken_by o (lists_of items ends) p) takes.which ∙ sym h
 
-      pub take-given : (r : Taken) → r ≡ given (front_of c) → r ≡ take_result op items ends counts p
+      pub take-given : take_reply (Ok g) ≡ take_result op items ends counts p
       unfolding take_result
-      take-given r e =
-          e ∙ (ap (λ (s : algorithm.AnswerCounts). given s.answer) (sym ran)
-          ∙ sym (ap (λ b. cond b (given (taken_by (operator_of length_of op 0) (lists_of items ends) p).answer) (not_taken (taking_refusal op items ends counts))) on))
+      take-given =
+          ap (λ (s : algorithm.AnswerCounts). given s.answer) (sym ran)
+          ∙ sym (ap (λ b. cond b (given (taken_by (operator_of length_of op 0) (lists_of items ends) p).answer) (not_taken (taking_refusal op items ends counts))) on)
 
-      pub take_counted : counts' ≡ take_cells op items ends counts p
+      pub take_counted : ks ++ drop (length ends) counts ≡ take_cells op items ends counts p
       unfolding take_cells
       take_counted =
-          sym (take-append-drop (length ends) counts')
-          ∙ (ap₂ ◌++◌ (ap (λ (s : algorithm.AnswerCounts). s.counts) (sym ran)) h.rest
-          ∙ sym (ap (λ b. cond b ((taken_by (operator_of length_of op 0) (lists_of items ends) p).counts ++ drop (length ends) counts) counts) on))
+          ap (λ (s : algorithm.AnswerCounts). s.counts ++ drop (length ends) counts) (sym ran)
+          ∙ sym (ap (λ b. cond b ((taken_by (operator_of length_of op 0) (lists_of items ends) p).counts ++ drop (length ends) counts) counts) on)
 
-      pub take_found : c.found ≡ true → record { number = 0; found = true; start = c.start; end = c.end } ≡ given (front_of c)
-      take_found f = ap given (sym (front_at c f))
+-- ── The reply fixes the result ──
 
-      pub take_none : c.found ≡ false → not_taken 0 ≡ given (front_of c)
-      take_none f = ap given (sym (front-none c f))
+given-fixes : (f g : Front) → given f ≡ given g → f ≡ g
+given-fixes None None e = refl
+given-fixes None (Some y) e = absurd (true≢false (sym (ap (λ (s : TakeReply). s.found) e)))
+given-fixes (Some x) None e = absurd (true≢false (ap (λ (s : TakeReply). s.found) e))
+given-fixes (Some x) (Some y) e = λ i. Some (record { start = ap (λ (s : TakeReply). s.start) e i; end = ap (λ (s : TakeReply). s.end) e i })
+
+-- an answer or "none": the call returned just that
+pub reply-answer : (r : Result Front Refusal) (g : Front) → take_reply r ≡ given g → r ≡ Ok g
+reply-answer (Ok f) g e = ap Ok (given-fixes f g e)
+reply-answer (Err d) None e = absurd (numbered d (ap (λ (s : TakeReply). s.number) e))
+reply-answer (Err d) (Some x) e = absurd (numbered d (ap (λ (s : TakeReply). s.number) e))
+
+-- another number: it returned the refusal of that number
+pub reply-refusal : (r : Result Front Refusal) (n : ℕ) → (n ≡ 0 → ⊥) → take_reply r ≡ not_taken n → IfErr r (λ d. number_of d ≡ n) × IsErr r
+reply-refusal (Ok None) n h e = absurd (h (sym (ap (λ (s : TakeReply). s.number) e)))
+reply-refusal (Ok (Some x)) n h e = absurd (h (sym (ap (λ (s : TakeReply). s.number) e)))
+reply-refusal (Err d) n h e = (ap (λ (s : TakeReply). s.number) e, refl)

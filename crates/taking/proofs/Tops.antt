@@ -1,27 +1,25 @@
--- The top and the span of the queue from a list on, as the code folds them from the last list back to the first; and what an advance does to the count cells.
+-- The top and the span of the queue from a list on, as the code folds them from the last list back to the first; and what an advance does to the counts.
 -- The items are opened at one list; an advance stores at the top's list. Assumes nothing.
 use Prim.Native.Nat.{ℕ, zero, suc, ◌+◌, ◌-◌, ◌≤◌, ◌<◌}
 use mathlib.Core.Path.{◌≡◌, refl, sym, ap, ap₂, subst, ◌∙◌}
 use mathlib.Core.Bool.{Bool, true, false, cond}
 use mathlib.Core.List.{List, [], ◌∷◌}
 use native.Mathlib.Omega.{arith}
-use lib.ListN.{length, get_or, set, take, drop, length-set, drop_of_length-le}
-use lib.Seq.{drop-nil, length-take-le, get_or-take, take-set-lt, drop-set-lt}
-use Rattle.stretches.specs.Stretch.{Stretch, st}
-use Rattle.stretches.specs.Front.{Front, None, At, nth}
+use lib.ListN.{length, get_or, set, drop, drop_of_length-le}
+use lib.Seq.{drop-nil}
+use Rattle.std.specs.Prelude.{Option, IfSome}
+use Rattle.stretches.specs.declared.Stretch.{Stretch}
+use Rattle.stretches.specs.Front.{Front, None, Some, nth}
 use Rattle.stretches.specs.Taking.{Order, fronts, leads, top, top_index, join, span, one_more, advance}
-use Rattle.stretches.specs.Lent.{lists_of}
 use Rattle.stretches.proofs.Incomparable.{fine-few}
 use Rattle.stretches.proofs.Fine.{AllFine, first_fine, rest-fine}
-use Rattle.stretches.proofs.Lent.{lists_length}
-use Rattle.taking.specs.declared.queue.Item.{Item}
-use Rattle.taking.specs.declared.queue.Top.{Top}
-use Rattle.taking.specs.inner.Queue.{front_of, order_of, Lent, queue, better_of, Topped, Moved}
+use Rattle.meaning.specs.Refusals.{disordered}
 use Rattle.lent.proofs.Ordering.{fine-lists}
+use Rattle.taking.specs.inner.Queue.{better_of, Topped}
 
 -- ── The queue, opened at a list ──
 
-fronts-length : (ls : List (List Stretch)) (ks : List ℕ) → length ks ≡ length ls → length (fronts ls ks) ≡ length ls
+pub fronts-length : (ls : List (List Stretch)) (ks : List ℕ) → length ks ≡ length ls → length (fronts ls ks) ≡ length ls
 fronts-length [] ks e = refl
 fronts-length (l ∷ ls) [] e = absurd (omega arith)
 fronts-length (l ∷ ls) (k ∷ ks) e = ap suc (fronts-length ls ks (omega arith))
@@ -33,88 +31,70 @@ fronts-open i (l ∷ ls) [] e h = absurd (omega arith)
 fronts-open zero (l ∷ ls) (k ∷ ks) e h = refl
 fronts-open (suc i) (l ∷ ls) (k ∷ ks) e h = fronts-open i ls ks (omega arith) (omega arith)
 
-module _ (items ends counts : List ℕ) (room : length ends ≤ length counts) where
-  taken-length : length (take (length ends) counts) ≡ length (lists_of items ends)
-  taken-length = length-take-le (length ends) counts room ∙ sym (lists_length 0 items ends)
+module _ (ls : List (List Stretch)) (ks : List ℕ) (room : length ks ≡ length ls) where
+  -- the item of list i that was taken last
+  abbrev item : ℕ → Front
+  item i = nth (get_or ls i []) (get_or ks i 0 - 1)
 
-  pub queue-length : length (queue items ends counts) ≡ length ends
-  unfolding queue
-  queue-length = fronts-length (lists_of items ends) (take (length ends) counts) taken-length ∙ lists_length 0 items ends
+  back : (i : ℕ) → 0 < i → i ≤ length ls → drop (i - 1) (fronts ls ks) ≡ item (i - 1) ∷ drop i (fronts ls ks)
+  back i lo hi =
+      let z : suc (i - 1) ≡ i = omega arith in
+      fronts-open (i - 1) ls ks room (omega arith) ∙ ap (λ (j : ℕ). item (i - 1) ∷ drop j (fronts ls ks)) z
 
-  pub queue-open : (i : ℕ) → i < length ends → drop i (queue items ends counts) ≡ nth (get_or (lists_of items ends) i []) (get_or counts i 0 - 1) ∷ drop (i + 1) (queue items ends counts)
-  unfolding queue
-  queue-open i h =
-      let z : suc i ≡ i + 1 = omega arith in
-      let n = lists_length 0 items ends in
-      fronts-open i (lists_of items ends) (take (length ends) counts) taken-length (omega arith)
-      ∙ ap₂ (λ (k j : ℕ). nth (get_or (lists_of items ends) i []) (k - 1) ∷ drop j (fronts (lists_of items ends) (take (length ends) counts))) (get_or-take (length ends) counts i 0 h) z
+  over : drop (length ls) (fronts ls ks) ≡ []
+  over = drop_of_length-le (fronts ls ks) {i = length ls} (omega (arith, fronts-length ls ks room))
 
-  pub queue-over : drop (length ends) (queue items ends counts) ≡ []
-  queue-over = drop_of_length-le (queue items ends counts) {i = length ends} (omega (arith, queue-length))
+  -- ── The span ──
+
+  pub span-empty : length ls ≡ 0 → None ≡ span (fronts ls ks)
+  span-empty e = sym (ap span (ap (λ (j : ℕ). drop j (fronts ls ks)) (sym e) ∙ over))
+
+  pub span-end : (m : ℕ) → m + 1 ≡ length ls → item m ≡ span (drop m (fronts ls ks))
+  span-end m e =
+      let z : suc m ≡ length ls = omega arith in
+      sym (ap span (fronts-open m ls ks room (omega arith) ∙ ap (λ r. item m ∷ r) (ap (λ (j : ℕ). drop j (fronts ls ks)) z ∙ over)))
+
+  pub span-back : (i : ℕ) (x s s' : Front) → 0 < i → i < length ls → x ≡ item (i - 1) → s' ≡ join x s → s ≡ span (drop i (fronts ls ks)) → s' ≡ span (drop (i - 1) (fronts ls ks))
+  span-back i x s s' lo hi h e w =
+      let o = fronts-open i ls ks room hi in
+      e ∙ (ap₂ join h (w ∙ ap span o) ∙ sym (ap span (back i lo (omega arith) ∙ ap (λ r. item (i - 1) ∷ r) o)))
 
 -- ── The top ──
 
-pub top-over : (b : Bool) (q : List Front) (n : ℕ) (x : Item) → drop n q ≡ [] → front_of x ≡ None → Topped b q n (record { item = x; list = n })
-top-over b q n x e h = record { item = h ∙ ap (top (order_of b)) (sym e); list = omega (arith, ap (top_index (order_of b)) e) }
+top-turn : (o : Order) (q : List Front) (i : ℕ) (f : Front) (t : Option (Stretch × ℕ)) → drop i q ≡ f ∷ drop (suc i) q → Topped o q (suc i) t → Topped o q i (better_of o f i t)
+top-turn o q i None None e w = ap (top o) e ∙ w
+top-turn o q i None (Some s) e w = (ap (top o) e ∙ w.0, omega (arith, ap (top_index o) e, w.1))
+top-turn o q i (Some x) None e w =
+    let g = λ (g : Front). cond (leads o (Some x) g) 0 (suc (top_index o (drop (suc i) q))) in
+    (ap (top o) e ∙ ap (λ g. cond (leads o (Some x) g) (Some x) g) w, omega (arith, ap (top_index o) e ∙ ap g w))
+top-turn o q i (Some x) (Some s) e w =
+    go (o x s.0) (ap (top o) e ∙ ap (λ g. cond (leads o (Some x) g) (Some x) g) w.0)
+    (ap (top_index o) e ∙ ap (λ (g : Front). cond (leads o (Some x) g) 0 (suc (top_index o (drop (suc i) q)))) w.0)
+  where
+    go : (v : Bool) → top o (drop i q) ≡ cond v (Some x) (Some s.0) → top_index o (drop i q) ≡ cond v 0 (suc (top_index o (drop (suc i) q))) → Topped o q i (cond v (Some (x, i)) (Some s))
+    go true p k = (p, omega (arith, k))
+    go false p k = (p, omega (arith, k, w.1))
 
-module _ (b : Bool) (q : List Front) (i : ℕ) (f : Front) (x : Item) (t : Top) (e : drop i q ≡ f ∷ drop (i + 1) q) (h : front_of x ≡ f) (w : Topped b q (i + 1) t) where
-  top-here : top (order_of b) (drop i q) ≡ cond (leads (order_of b) (front_of x) (front_of t.item)) (front_of x) (front_of t.item)
-  top-here = ap (top (order_of b)) e ∙ ap₂ (λ f g. cond (leads (order_of b) f g) f g) (sym h) (sym w.item)
+module _ (o : Order) (ls : List (List Stretch)) (ks : List ℕ) (room : length ks ≡ length ls) where
+  pub top-end : (n : ℕ) → n ≡ length ls → Topped o (fronts ls ks) n None
+  top-end n e = ap (top o) (ap (λ (j : ℕ). drop j (fronts ls ks)) e ∙ over ls ks room)
 
-  index-here : top_index (order_of b) (drop i q) ≡ cond (leads (order_of b) (front_of x) (front_of t.item)) 0 (suc (top_index (order_of b) (drop (i + 1) q)))
-  index-here = ap (top_index (order_of b)) e ∙ ap₂ (λ f g. cond (leads (order_of b) f g) 0 (suc (top_index (order_of b) (drop (i + 1) q)))) (sym h) (sym w.item)
-
-  pub top-turn : Topped b q i (better_of b x i t)
-  unfolding better_of
-  top-turn = go (leads (order_of b) (front_of x) (front_of t.item)) top-here index-here
-    where
-      go : (v : Bool) → top (order_of b) (drop i q) ≡ cond v (front_of x) (front_of t.item) → top_index (order_of b) (drop i q) ≡ cond v 0 (suc (top_index (order_of b) (drop (i + 1) q)))
-          → Topped b q i (cond v (record { item = x; list = i }) t)
-      go true p k = record { item = sym p; list = omega (arith, k) }
-      go false p k = record { item = sym p; list = omega (arith, k, w.list) }
-
--- ── Back by one list ──
-
-module _ (items ends counts : List ℕ) (room : length ends ≤ length counts) where
-  -- the item of list i that was taken last
-  abbrev item : ℕ → Front
-  item i = nth (get_or (lists_of items ends) i []) (get_or counts i 0 - 1)
-
-  pub top-end : (b : Bool) (x : Item) → front_of x ≡ None → Topped b (queue items ends counts) (length ends) (record { item = x; list = length ends })
-  top-end b x h = top-over b (queue items ends counts) (length ends) x (queue-over items ends counts room) h
-
-  pub top_back : (b : Bool) (i : ℕ) (x : Item) (t t' : Top) → 0 < i → i ≤ length ends → front_of x ≡ item (i - 1) → t' ≡ better_of b x (i - 1) t
-      → Topped b (queue items ends counts) i t → Topped b (queue items ends counts) (i - 1) t'
-  top_back b i x t t' lo hi h e w =
-      let z : i ≡ i - 1 + 1 = omega arith in
-      subst (Topped b (queue items ends counts) (i - 1)) (sym e)
-      (top-turn b (queue items ends counts) (i - 1) (item (i - 1)) x t (queue-open items ends counts room (i - 1) (omega arith)) h (subst (λ (j : ℕ). Topped b (queue items ends counts) j t) z w))
-
-  pub span-empty : length ends ≡ 0 → None ≡ span (queue items ends counts)
-  span-empty e = sym (ap span (ap (λ (j : ℕ). drop j (queue items ends counts)) (sym e) ∙ queue-over items ends counts room))
-
-  pub span-end : (x : Item) → 0 < length ends → front_of x ≡ item (length ends - 1) → front_of x ≡ span (drop (length ends - 1) (queue items ends counts))
-  span-end x h e =
-      let z : length ends - 1 + 1 ≡ length ends = omega arith in
-      e ∙ sym (ap span (queue-open items ends counts room (length ends - 1) (omega arith) ∙ ap (λ r. item (length ends - 1) ∷ r) (ap (λ (j : ℕ). drop j (queue items ends counts)) z ∙ queue-over items ends counts room)))
-
-  pub span-back : (i : ℕ) (x s s' : Item) → 0 < i → i < length ends → front_of x ≡ item (i - 1) → front_of s' ≡ join (front_of x) (front_of s)
-      → front_of s ≡ span (drop i (queue items ends counts)) → front_of s' ≡ span (drop (i - 1) (queue items ends counts))
-  span-back i x s s' lo hi h e w =
-      let z : i - 1 + 1 ≡ i = omega arith in
-      let o = queue-open items ends counts room i hi in
-      e ∙ (ap₂ join h (w ∙ ap span o)
-      ∙ sym (ap span (queue-open items ends counts room (i - 1) (omega arith) ∙ ap (λ r. item (i - 1) ∷ r) (ap (λ (j : ℕ). drop j (queue items ends counts)) z ∙ o))))
+  pub top_back : (i : ℕ) (x : Front) (t t' : Option (Stretch × ℕ)) → 0 < i → i ≤ length ls → x ≡ item ls ks room (i - 1) → t' ≡ better_of o x (i - 1) t
+      → Topped o (fronts ls ks) i t → Topped o (fronts ls ks) (i - 1) t'
+  top_back i x t t' lo hi h e w =
+      let z : i ≡ suc (i - 1) = omega arith in
+      subst (Topped o (fronts ls ks) (i - 1)) (sym (e ∙ ap (λ f. better_of o f (i - 1) t) h))
+      (top-turn o (fronts ls ks) (i - 1) (item ls ks room (i - 1)) t (fronts-open (i - 1) ls ks room (omega arith)) (subst (λ (j : ℕ). Topped o (fronts ls ks) j t) z w))
 
 -- ── An advance ──
 
 -- where there is a top, it is the item of its list; where there is none, its list is past the last
-top-at : (o : Order) (q : List Front) (y : Stretch) → top o q ≡ At y → (top_index o q < length q) × (get_or q (top_index o q) None ≡ At y)
+top-at : (o : Order) (q : List Front) (y : Stretch) → top o q ≡ Some y → (top_index o q < length q) × (get_or q (top_index o q) None ≡ Some y)
 top-at o [] y e = let z : ◌≡◌ {A = ℕ} 0 1 = cc in absurd (omega arith)
 top-at o (f ∷ fs) y e = go (leads o f (top o fs)) e (top-at o fs y)
   where
-    go : (v : Bool) → cond v f (top o fs) ≡ At y → (top o fs ≡ At y → (top_index o fs < length fs) × (get_or fs (top_index o fs) None ≡ At y))
-        → (cond v 0 (suc (top_index o fs)) < suc (length fs)) × (get_or (f ∷ fs) (cond v 0 (suc (top_index o fs))) None ≡ At y)
+    go : (v : Bool) → cond v f (top o fs) ≡ Some y → (top o fs ≡ Some y → (top_index o fs < length fs) × (get_or fs (top_index o fs) None ≡ Some y))
+        → (cond v 0 (suc (top_index o fs)) < suc (length fs)) × (get_or (f ∷ fs) (cond v 0 (suc (top_index o fs))) None ≡ Some y)
     go true p k = (omega arith, p)
     go false p k = (omega (arith, (k p).0), (k p).1)
 
@@ -137,7 +117,7 @@ more-past i [] h = refl
 more-past zero (k ∷ ks) h = absurd (omega arith)
 more-past (suc i) (k ∷ ks) h = ap (λ l. k ∷ l) (more-past i ks (omega arith))
 
-nth-short : (l : List Stretch) (m : ℕ) (y : Stretch) → nth l m ≡ At y → m < length l
+nth-short : (l : List Stretch) (m : ℕ) (y : Stretch) → nth l m ≡ Some y → m < length l
 nth-short [] zero y e = let z : ◌≡◌ {A = ℕ} 0 1 = cc in absurd (omega arith)
 nth-short [] (suc m) y e = let z : ◌≡◌ {A = ℕ} 0 1 = cc in absurd (omega arith)
 nth-short (x ∷ l) zero y e = omega arith
@@ -149,56 +129,28 @@ short-lists [] f i = omega arith
 short-lists (l ∷ ls) f zero = fine-few 65536 l (first_fine f)
 short-lists (l ∷ ls) f (suc i) = short-lists ls (rest-fine f) i
 
-get_d-drop-front : (q : List Front) (i : ℕ) (f : Front) (r : List Front) → drop i q ≡ f ∷ r → get_or q i None ≡ f
-get_d-drop-front [] i f r e = let w : [] ≡ f ∷ r = sym (drop-nil i) ∙ e in let z : ◌≡◌ {A = ℕ} 0 1 = cc in absurd (omega arith)
-get_d-drop-front (g ∷ q) zero f r e = cc
-get_d-drop-front (g ∷ q) (suc i) f r e = get_d-drop-front q i f r e
+get_or-drop-front : (q : List Front) (i : ℕ) (f : Front) (r : List Front) → drop i q ≡ f ∷ r → get_or q i None ≡ f
+get_or-drop-front [] i f r e = let w : [] ≡ f ∷ r = sym (drop-nil i) ∙ e in let z : ◌≡◌ {A = ℕ} 0 1 = cc in absurd (omega arith)
+get_or-drop-front (g ∷ q) zero f r e = cc
+get_or-drop-front (g ∷ q) (suc i) f r e = get_or-drop-front q i f r e
 
-pub front_at : (x : Item) → x.found ≡ true → front_of x ≡ At (st x.start x.end)
-front_at x e = ap (λ v. cond v (At (st x.start x.end)) None) e
-
-pub front-none : (x : Item) → x.found ≡ false → front_of x ≡ None
-front-none x e = ap (λ v. cond v (At (st x.start x.end)) None) e
-
-module _ (b : Bool) (items ends counts : List ℕ) (l : Lent items ends counts) (t : Top) (w : Topped b (queue items ends counts) 0 t) where
+module _ (o : Order) (ls : List (List Stretch)) (ks : List ℕ) (room : length ks ≡ length ls) where
   -- the top's list, and that its count is far from full
-  pub record Movable : Type 0 where
-    pub here : t.list < length ends
-    pub small : get_or counts t.list 0 ≤ 65536
+  pub top-open : (t : Option (Stretch × ℕ)) → Topped o (fronts ls ks) 0 t → disordered ls ≡ false → IfSome t (λ t. (t.1 < length ks) × (get_or ks t.1 0 ≤ 65536))
+  top-open None w d = tt
+  top-open (Some t) w d =
+      let k = top-at o (fronts ls ks) t.0 w.0 in
+      let n = fronts-length ls ks room in
+      let i : t.1 ≡ top_index o (fronts ls ks) = omega (arith, w.1) in
+      let h : t.1 < length ls = omega (arith, k.0) in
+      let g = get_or-drop-front (fronts ls ks) t.1 (item ls ks room t.1) (drop (suc t.1) (fronts ls ks)) (fronts-open t.1 ls ks room h) in
+      let m = nth-short (get_or ls t.1 []) (get_or ks t.1 0 - 1) t.0 (sym g ∙ (ap (λ j. get_or (fronts ls ks) j None) i ∙ k.1)) in
+      (omega arith, omega (arith, m, short-lists ls (fine-lists ls d) t.1))
 
-  pub movable : t.item.found ≡ true → Movable
-  movable f =
-      let k = top-at (order_of b) (queue items ends counts) (st t.item.start t.item.end) (sym w.item ∙ front_at t.item f) in
-      let n = queue-length items ends counts l.room in
-      let i : t.list ≡ top_index (order_of b) (queue items ends counts) = omega (arith, w.list) in
-      let h : t.list < length ends = omega (arith, k.0) in
-      let g = get_d-drop-front (queue items ends counts) t.list (nth (get_or (lists_of items ends) t.list []) (get_or counts t.list 0 - 1)) (drop (t.list + 1) (queue items ends counts)) (queue-open items ends counts l.room t.list h) in
-      let m = nth-short (get_or (lists_of items ends) t.list []) (get_or counts t.list 0 - 1) (st t.item.start t.item.end) (sym g ∙ (ap (λ j. get_or (queue items ends counts) j None) i ∙ k.1)) in
-      record { here = h; small = omega (arith, m, short-lists (lists_of items ends) (fine-lists (lists_of items ends) l.order) t.list) }
+  pub moved : (t : Stretch × ℕ) → Topped o (fronts ls ks) 0 (Some t) → t.1 < length ks → set ks t.1 (get_or ks t.1 0 + 1) ≡ advance o ls ks
+  moved t w h =
+      let i : t.1 ≡ top_index o (fronts ls ks) = omega (arith, w.1) in
+      sym (more-set t.1 ks h) ∙ ap (λ j. one_more j ks) i
 
-  pub moved-top : t.item.found ≡ true → Moved (length ends) (advance (order_of b) (lists_of items ends) (take (length ends) counts)) counts (set counts t.list (get_or counts t.list 0 + 1))
-  unfolding queue
-  moved-top f =
-      let m = movable f in
-      let i : top_index (order_of b) (fronts (lists_of items ends) (take (length ends) counts)) ≡ t.list = omega (arith, w.list) in
-      record {
-        wide = length-set counts t.list (get_or counts t.list 0 + 1);
-        head =
-            take-set-lt (length ends) counts t.list (get_or counts t.list 0 + 1) m.here
-            ∙ (ap (λ v. set (take (length ends) counts) t.list (v + 1)) (sym (get_or-take (length ends) counts t.list 0 m.here))
-            ∙ (sym (more-set t.list (take (length ends) counts) (omega (arith, m.here, length-take-le (length ends) counts l.room)))
-            ∙ ap (λ j. one_more j (take (length ends) counts)) (sym i)));
-        rest = drop-set-lt (length ends) counts t.list (get_or counts t.list 0 + 1) m.here;
-      }
-
-  pub moved_none : t.item.found ≡ false → Moved (length ends) (advance (order_of b) (lists_of items ends) (take (length ends) counts)) counts counts
-  unfolding queue
-  moved_none f =
-      let q = fronts (lists_of items ends) (take (length ends) counts) in
-      let n = top-none (order_of b) q (sym w.item ∙ front-none t.item f) in
-      let m : length q ≡ length ends = queue-length items ends counts l.room in
-      record {
-        wide = refl;
-        head = sym (more-past (top_index (order_of b) q) (take (length ends) counts) (omega (arith, n, m, length-take-le (length ends) counts l.room)));
-        rest = refl;
-      }
+  pub moved_none : Topped o (fronts ls ks) 0 None → ks ≡ advance o ls ks
+  moved_none w = sym (more-past (top_index o (fronts ls ks)) ks (omega (arith, top-none o (fronts ls ks) w, fronts-length ls ks room)))

@@ -1,21 +1,25 @@
 -- The walk over answers: steps pass over answers, and write them into cells. One law for each return and turn. Assumes nothing.
-use mathlib.Core.Path.{◌≡◌, refl, sym, ap, subst, ◌∙◌}
+use mathlib.Core.Path.{◌≡◌, refl, sym, ap, subst, subst₂, ◌∙◌}
 use mathlib.Core.Bool.{Bool, true, false}
 use mathlib.Core.List.{List}
 use Prim.Native.Nat.{ℕ, suc, ◌+◌, ◌*◌, ◌/◌, ◌≤◌, ◌<◌}
 use native.Mathlib.Omega.{arith}
-use lib.ListN.{length, set, take, drop, replicate, length-take, length-drop, drop_of_length-le}
+use lib.ListN.{length, set, take, drop, length-take, length-drop, drop_of_length-le}
 use lib.Seq.{drop-drop, drop-set-lt}
 use lib.Dec.{ltb}
 use borrow.Author.Tests.{ltb-true, ltb-false, lt-ltb, le-ltb}
 use Rattle.basics.proofs.Basics.{cases}
-use Rattle.stretches.specs.Stretch.{Stretch, st}
+use Rattle.std.specs.Option.{is_some}
+use Rattle.stretches.specs.declared.Node.{Node}
+use Rattle.stretches.specs.declared.Stretch.{Stretch}
+use Rattle.stretches.specs.Stretch.{st}
+use Rattle.stretches.specs.Front.{Front, None, Some}
 use Rattle.stretches.specs.Filling.{pairs_in, written, more_after}
 use Rattle.stretches.proofs.Filling.{drop-step, Partly, partly_more, partly-done, partly-all}
-use Rattle.seek.specs.declared.Front.{Front}
+use Rattle.seek.specs.declared.state.State.{State}
 use Rattle.seek.specs.Source.{Source, Good}
-use Rattle.seek.specs.First.{Ready, FirstOf}
-use Rattle.seek.proofs.State.{ready-none}
+use Rattle.seek.specs.First.{no_state, Ready, FirstOf}
+use Rattle.seek.proofs.Keeping.{ready-none}
 use Rattle.seek.proofs.Ahead.{rest, step-ready, step-none, step-some}
 use Rattle.walk.specs.declared.Walked.{Walked}
 use Rattle.walk.specs.Filling.{Filling, FillAll}
@@ -23,21 +27,21 @@ use Rattle.walk.specs.inner.Walks.{PassedOver, Put}
 
 -- ── Answers passed over ──
 
-pub over-start : {src : Source} {rows s : List ℕ} {t : ℕ} → PassedOver src rows s t 0 t s
+pub over-start : {src : Source} {rows : List Node} {s : State} {t : ℕ} → PassedOver src rows s t 0 t s
 over-start = record { ready = λ good rdy. rdy; rest = λ good rdy. refl }
 
-module _ {src : Source} {rows s₀ s : List ℕ} {t₀ t n : ℕ} (inv : PassedOver src rows s₀ t₀ n t s) {f : Front} {s' : List ℕ} (g : FirstOf src rows s 0 t f s') where
-  pub over-turn : f.start < 65536 → PassedOver src rows s₀ t₀ (n + 1) (f.start + 1) s'
-  over-turn one = record {
+module _ {src : Source} {rows : List Node} {s₀ s : State} {t₀ t n : ℕ} (inv : PassedOver src rows s₀ t₀ n t s) {r : Front} {s' : State} (g : FirstOf src rows s 0 t r s') where
+  pub over-turn : {x : Stretch} → r ≡ Some x → PassedOver src rows s₀ t₀ (n + 1) (x.start + 1) s'
+  over-turn {x} one = record {
     ready = λ good rdy. step-ready g good (inv.ready good rdy);
     rest = λ good rdy.
         let z : suc n ≡ n + 1 = omega arith in
-        sym (drop-step n (rest src rows t₀) (st f.start f.end) (rest src rows (f.start + 1)) (sym (inv.rest good rdy) ∙ step-some g good (inv.ready good rdy) one)).0
+        sym (drop-step n (rest src rows t₀) x (rest src rows (x.start + 1)) (sym (inv.rest good rdy) ∙ step-some g good (inv.ready good rdy) one)).0
         ∙ ap (λ (k : ℕ). drop k (rest src rows t₀)) z;
   }
 
   -- past the last answer it is the same for every number
-  pub over-end : {m : ℕ} → 65536 ≤ f.start → n ≤ m → PassedOver src rows s₀ t₀ m t s'
+  pub over-end : {m : ℕ} → r ≡ None → n ≤ m → PassedOver src rows s₀ t₀ m t s'
   over-end {m} no_more le = record {
     ready = λ good rdy. step-ready g good (inv.ready good rdy);
     rest = λ good rdy.
@@ -46,17 +50,17 @@ module _ {src : Source} {rows s₀ s : List ℕ} {t₀ t n : ℕ} (inv : PassedO
         e ∙ sym (drop_of_length-le (rest src rows t₀) {i = m} (omega arith));
   }
 
-pub over_done : {src : Source} {rows s₀ s : List ℕ} {t₀ t n m : ℕ} → PassedOver src rows s₀ t₀ n t s → n ≡ m → PassedOver src rows s₀ t₀ m t s
+pub over_done : {src : Source} {rows : List Node} {s₀ s : State} {t₀ t n m : ℕ} → PassedOver src rows s₀ t₀ n t s → n ≡ m → PassedOver src rows s₀ t₀ m t s
 over_done {src} {rows} {s₀} {s} {t₀} {t} inv e = subst (λ (k : ℕ). PassedOver src rows s₀ t₀ k t s) e inv
 
 -- ── Answers written into cells ──
 
 -- n of the answers from line t₀ on are written, and the next is sought from line t
-pub record PutInv (src : Source) (rows s₀ : List ℕ) (t₀ : ℕ) (cells₀ s : List ℕ) (t n : ℕ) (cells : List ℕ) : Type 0 where
+pub record PutInv (src : Source) (rows : List Node) (s₀ : State) (t₀ : ℕ) (cells₀ : List ℕ) (s : State) (t n : ℕ) (cells : List ℕ) : Type 0 where
   pub over : PassedOver src rows s₀ t₀ n t s
   pub partly : Good src rows → Ready src rows s₀ → Partly (rest src rows t₀) n cells₀ cells
 
-pub put-start : {src : Source} {rows s : List ℕ} {t : ℕ} {cells : List ℕ} → PutInv src rows s t cells s t 0 cells
+pub put-start : {src : Source} {rows : List Node} {s : State} {t : ℕ} {cells : List ℕ} → PutInv src rows s t cells s t 0 cells
 put-start = record { over = over-start; partly = λ good rdy. record { some = omega arith; wrote = refl } }
 
 -- whatever is written lies before 2 n
@@ -79,32 +83,40 @@ module _ (l : List Stretch) (n : ℕ) (cells₀ cells : List ℕ) (p : Partly l 
   filling-full : n < length l → n ≡ pairs_in cells₀ → Filling l 0 cells₀ (record { count = n; more = true }) cells
   filling-full more full = filling-is true (ap (λ (k : ℕ). take k l) (sym full)) (sym (lt-ltb (0 + n) (length l) (omega arith)))
 
-module _ {src : Source} {rows s₀ : List ℕ} {t₀ : ℕ} {cells₀ s : List ℕ} {t n : ℕ} {cells : List ℕ} (inv : PutInv src rows s₀ t₀ cells₀ s t n cells)
-    {f : Front} {s' : List ℕ} (g : FirstOf src rows s 0 t f s') where
-  pub put-turn : f.start < 65536 → 2 * n + 2 ≤ length cells₀ → PutInv src rows s₀ t₀ cells₀ s' (f.start + 1) (n + 1) (set (set cells (2 * n) f.start) (2 * n + 1) f.end)
-  put-turn one room = record {
+module _ {src : Source} {rows : List Node} {s₀ : State} {t₀ : ℕ} {cells₀ : List ℕ} {s : State} {t n : ℕ} {cells : List ℕ} (inv : PutInv src rows s₀ t₀ cells₀ s t n cells)
+    {r : Front} {s' : State} (g : FirstOf src rows s 0 t r s') where
+  pub put-turn : {x : Stretch} → r ≡ Some x → 2 * n + 2 ≤ length cells₀ → PutInv src rows s₀ t₀ cells₀ s' (x.start + 1) (n + 1) (set (set cells (2 * n) x.start) (2 * n + 1) x.end)
+  put-turn {x} one room = record {
     over = over-turn inv.over g one;
-    partly = λ good rdy. partly_more (rest src rows t₀) n cells₀ cells (inv.partly good rdy) (st f.start f.end) (rest src rows (f.start + 1))
+    partly = λ good rdy. partly_more (rest src rows t₀) n cells₀ cells (inv.partly good rdy) x (rest src rows (x.start + 1))
         (sym (inv.over.rest good rdy) ∙ step-some g good (inv.over.ready good rdy) one) room;
   }
 
   -- nothing is left
-  pub put-done : {w : Walked} → w ≡ record { count = n; more = false } → 65536 ≤ f.start → 2 * n ≤ length cells₀ → Put src rows s₀ t₀ cells₀ w cells
-  put-done {w} e no_more room = record {
+  pub put-done : r ≡ None → 2 * n ≤ length cells₀ → Put src rows s₀ t₀ cells₀ (record { count = n; more = false }) cells
+  put-done no_more room = record {
     puts = λ good rdy.
         let k = sym (inv.over.rest good rdy) ∙ step-none g good (inv.over.ready good rdy) no_more in
         let few : length (rest src rows t₀) ≤ n = omega (arith, length-drop n (rest src rows t₀), ap length k) in
-        subst (λ (w : Walked). Filling (rest src rows t₀) 0 cells₀ w cells) (sym e) (filling-done (rest src rows t₀) n cells₀ cells (inv.partly good rdy) few room);
+        filling-done (rest src rows t₀) n cells₀ cells (inv.partly good rdy) few room;
   }
 
   -- a further answer has no room
-  pub put_full : {w : Walked} → w ≡ record { count = n; more = true } → f.start < 65536 → n ≡ length cells₀ / 2 → Put src rows s₀ t₀ cells₀ w cells
-  put_full {w} e one full = record {
+  put_full : {x : Stretch} → r ≡ Some x → n ≡ length cells₀ / 2 → Put src rows s₀ t₀ cells₀ (record { count = n; more = true }) cells
+  put_full one full = record {
     puts = λ good rdy.
         let k = sym (inv.over.rest good rdy) ∙ step-some g good (inv.over.ready good rdy) one in
         let more : n < length (rest src rows t₀) = omega (arith, length-drop n (rest src rows t₀), ap length k) in
-        subst (λ (w : Walked). Filling (rest src rows t₀) 0 cells₀ w cells) (sym e) (filling-full (rest src rows t₀) n cells₀ cells (inv.partly good rdy) more full);
+        filling-full (rest src rows t₀) n cells₀ cells (inv.partly good rdy) more full;
   }
+
+  -- whether a further answer exists
+  pub put-last : {k : ℕ} {b : Bool} → k ≡ n → b ≡ is_some r → n ≡ length cells₀ / 2 → Put src rows s₀ t₀ cells₀ (record { count = k; more = b }) cells
+  put-last ek eb full = subst₂ (λ (k : ℕ) (b : Bool). Put src rows s₀ t₀ cells₀ (record { count = k; more = b }) cells) (sym ek) (sym eb) (by r refl)
+    where
+      by : (g : Front) → r ≡ g → Put src rows s₀ t₀ cells₀ (record { count = n; more = is_some g }) cells
+      by None e = put-done e (omega arith)
+      by (Some x) e = put_full e full
 
 -- ── Both ──
 
@@ -117,11 +129,11 @@ more-after l f cells =
     (λ k. lt-ltb (0 + length (written l f cells)) (length (drop f l)) (omega (arith, ltb-true (f + length (written l f cells)) (length l) k)))
     (λ k. le-ltb (0 + length (written l f cells)) (length (drop f l)) (omega (arith, ltb-false (f + length (written l f cells)) (length l) k)))
 
-pub filled-all : {src : Source} {rows : List ℕ} {line f t : ℕ} {s : List ℕ} {cells : List ℕ} {w : Walked} {cells' : List ℕ}
-    → PassedOver src rows (replicate 192 0) line f t s → Put src rows s t cells w cells' → FillAll src rows line f cells w cells'
-filled-all {src} {rows} {line} {f} {t} {s} {cells} {w} {cells'} a b = record {
+pub filled-all : {src : Source} {rows : List Node} {line f t : ℕ} {s₀ s : State} {cells : List ℕ} {w : Walked} {cells' : List ℕ}
+    → s₀ ≡ no_state → PassedOver src rows s₀ line f t s → Put src rows s t cells w cells' → FillAll src rows line f cells w cells'
+filled-all {src} {rows} {line} {f} {t} {s₀} {s} {cells} {w} {cells'} e a b = record {
   fills = λ good.
-      let rdy = ready-none src rows in
+      let rdy = subst (Ready src rows) (sym e) (ready-none src rows) in
       let h = subst (λ (l : List Stretch). Filling l 0 cells w cells') (a.rest good rdy) (b.puts good (a.ready good rdy)) in
       record { count = h.count; more = h.more ∙ more-after (rest src rows line) f cells; wrote = h.wrote };
 }

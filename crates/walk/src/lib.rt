@@ -1,13 +1,11 @@
 // The walk over all answers of a table's first node: some are passed over, the others written into cells.
-// rows, words, items and the state are as `seek` has them.
 #![tactic(auto)]
 
-ghost use Rattle.seek.specs.Source.{source};
+ghost use Rattle.seek.specs.Source.{source_of};
 ghost use Rattle.walk.specs.inner.Walks.{PassedOver, Put};
 ghost use Rattle.walk.specs.Filling.{FillAll, Within};
 
-use nodes::TABLE;
-use seek::{NONE, STATE};
+use seek::{Searched, State};
 
 // How many stretches were written, and whether a further answer exists.
 #[derive(Clone, Copy)]
@@ -17,90 +15,57 @@ pub struct Walked {
 }
 
 // Passes over n answers from line t0 on: the line from which the next is sought.
-fn pass_over(
-    rows: &[usize; TABLE],
-    words: &[u64],
-    items: &[u32],
-    sound: &[u64],
-    st: &mut [u32; STATE],
-    t0: u32,
-    n: usize,
-) -> u32
-    ensures { PassedOver (source words.now items.now sound.now) rows.now st.old t0 n result st.new }
+fn pass_over(searched: &Searched, st: &mut State, t0: u32, n: usize) -> u32
+    ensures { PassedOver (source_of searched.now) searched.now.rows.now st.old t0 n result st.new }
 {
     let mut t = t0;
-    let mut k: usize = 0;
-    while k < n {
-        let f = seek::first(rows, words, items, sound, st, 0, t);
-        let s = f.start;
-        if NONE <= s {
-            return t;
+    for _k in 0..n {
+        match searched.first(st, 0, t) {
+            None => {
+                return t;
+            }
+            Some(f) => {
+                t = f.start + 1;
+            }
         }
-        t = s + 1;
-        k += 1;
     }
     t
 }
 
 // Writes the answers from line t0 on into the cells, as many as whole pairs fit.
-fn put_all(
-    rows: &[usize; TABLE],
-    words: &[u64],
-    items: &[u32],
-    sound: &[u64],
-    st: &mut [u32; STATE],
-    t0: u32,
-    cells: &mut [u32],
-) -> Walked
-    ensures put { Put (source words.now items.now sound.now) rows.now st.old t0 cells.old result cells.new }
+fn put_all(searched: &Searched, st: &mut State, t0: u32, cells: &mut [u32]) -> Walked
+    ensures put { Put (source_of searched.now) searched.now.rows.now st.old t0 cells.old result cells.new }
     ensures within { Within cells.old result cells.new }
 {
     let mut t = t0;
-    let mut n: usize = 0;
-    let mut room = cells.len();
-    while 2 <= room {
-        let a = seek::first(rows, words, items, sound, st, 0, t);
-        let s = a.start;
-        if NONE <= s {
-            return Walked {
-                count: n,
-                more: false,
-            };
+    for n in 0..cells.len() / 2 {
+        match searched.first(st, 0, t) {
+            None => {
+                return Walked {
+                    count: n,
+                    more: false,
+                };
+            }
+            Some(a) => {
+                cells[2 * n] = a.start;
+                cells[2 * n + 1] = a.end;
+                t = a.start + 1;
+            }
         }
-        cells[2 * n] = s;
-        cells[2 * n + 1] = a.end;
-        room -= 2;
-        n += 1;
-        t = s + 1;
-    }
-    let b = seek::first(rows, words, items, sound, st, 0, t);
-    if NONE <= b.start {
-        return Walked {
-            count: n,
-            more: false,
-        };
     }
     Walked {
-        count: n,
-        more: true,
+        count: cells.len() / 2,
+        more: searched.first(st, 0, t).is_some(),
     }
 }
 
 // Writes the answers of node 0 that start at or after `line`, from number `from` of them on, into the cells, start then end, as many as whole pairs
 // fit; later cells keep their contents. With a list that is not fine some stretches are written, no more than fit.
-pub fn fill(
-    rows: &[usize; TABLE],
-    words: &[u64],
-    items: &[u32],
-    sound: &[u64],
-    cells: &mut [u32],
-    line: u32,
-    from: usize,
-) -> Walked
-    ensures fill_all { FillAll (source words.now items.now sound.now) rows.now line from cells.old result cells.new }
+pub fn fill(searched: &Searched, cells: &mut [u32], line: u32, from: usize) -> Walked
+    ensures fill_all { FillAll (source_of searched.now) searched.now.rows.now line from cells.old result cells.new }
     ensures within { Within cells.old result cells.new }
 {
-    let mut st = [0u32; STATE];
-    let t = pass_over(rows, words, items, sound, &mut st, line, from);
-    put_all(rows, words, items, sound, &mut st, t, cells)
+    let mut st = State::new();
+    let t = pass_over(searched, &mut st, line, from);
+    put_all(searched, &mut st, t, cells)
 }

@@ -6,7 +6,7 @@ use native.Mathlib.Omega.{arith}
 use lib.ListN.{length, get_or, take, drop}
 use Rattle.stretches.specs.Stretch.{Stretch, st}
 use Rattle.stretches.specs.Front as fronts
-use Rattle.stretches.specs.Front.{None, At, head_of, nth}
+use Rattle.stretches.specs.Front.{None, Some, head_of, nth}
 use Rattle.stretches.specs.Filling.{flat}
 use Rattle.stretches.specs.Table.{list_at}
 use Rattle.stretches.proofs.Steps.{onward-all}
@@ -16,9 +16,9 @@ use Rattle.records.specs.Line.{says}
 use Rattle.pattern.specs.Pattern.{Pattern}
 use Rattle.pattern.specs.Rows.{Tree}
 use Rattle.meaning.specs.Meaning.{over_table, answers_of}
-use Rattle.meaning.specs.Refusals.{Refusal, refusal}
+use Rattle.meaning.specs.Refusals.{Signal, refusal}
 use Rattle.meaning.specs.Shown.{Shown, of_front, shown}
-use Rattle.meaning.specs.declared.Reply.{Reply}
+use Rattle.meaning.specs.Replies.{Reply}
 use Rattle.meaning.proofs.Finding.{good-pattern}
 use Rattle.meaning.proofs.Table.{tree-list}
 use Rattle.acceptance.specs.declared.Readied.{Readied}
@@ -46,14 +46,14 @@ module _ (l : List Stretch) (k : ℕ) (w : Walked) (pair : List ℕ) (f : Fillin
       go (x ∷ m) h = absurd (omega (arith, f.count, ap (λ (m : List Stretch). length (take 1 m)) h))
 
   -- there is one
-  pair-some : (w.count ≡ 0 → ⊥) → nth l k ≡ At (st (get_or pair 0 0) (get_or pair 1 0))
+  pair-some : (w.count ≡ 0 → ⊥) → nth l k ≡ Some (st (get_or pair 0 0) (get_or pair 1 0))
   pair-some n = go (drop k l) refl
     where
-      go : (m : List Stretch) → drop k l ≡ m → head_of m ≡ At (st (get_or pair 0 0) (get_or pair 1 0))
+      go : (m : List Stretch) → drop k l ≡ m → head_of m ≡ Some (st (get_or pair 0 0) (get_or pair 1 0))
       go [] h = absurd (n (f.count ∙ ap (λ (m : List Stretch). length (take 1 m)) h))
       go (x ∷ m) h =
           let e = f.wrote ∙ ap (λ (m : List Stretch). flat (take 1 m) ++ drop (2 * length (take 1 m)) (0 ∷ 0 ∷ [])) h in
-          ap₂ (λ (s t : ℕ). At (st s t)) (sym (ap (λ (c : List ℕ). get_or c 0 0) e)) (sym (ap (λ (c : List ℕ). get_or c 1 0) e))
+          ap₂ (λ (s t : ℕ). Some (st s t)) (sym (ap (λ (c : List ℕ). get_or c 0 0) e)) (sym (ap (λ (c : List ℕ). get_or c 1 0) e))
 
 module _ (src : Source) (table rows : List ℕ) (good : Good src table) (k : ℕ) (w : Walked) (pair : List ℕ) (f : FillAll src table 0 k (0 ∷ 0 ∷ []) w pair) where
   -- the list's answers
@@ -114,4 +114,4 @@ module _ (text log : List ℕ) (k : ℕ) (cells : List ℕ) (r : Readied) (e : r
       let a = accepted-tree text log y in
       let h = written_as (of_front (nth (answers_of a.tree (says log)) k) (shown a.tree (says log))) (shown-accepted text log k a.tree a.reads a.list)
       (t.holds a.tree (subst (λ (rows : List ℕ). Tree rows 0 a.tree) (sym (ap (λ (x : Readied). x.rows) e)) a.stands) a.few) in
-      (λ i. reply (sym y i) (sym (ap (λ (x : Refusal). x.place) (good-pattern text log a.tree a.brief a.reads)) i) (h.0 i), h.1)
+      (λ i. reply (sym y i) (sym (ap (λ (x : Signal). x.place) (good-pattern text log a.tree a.brief a.reads)) i) (h.0 i), h.1)

@@ -8,7 +8,7 @@ use lib.ListN.{length, length-take}
 use lib.Seq.{take_all}
 use Rattle.basics.proofs.Basics.{le-or-lt}
 use Rattle.stretches.specs.Stretch.{Stretch}
-use Rattle.stretches.specs.Front.{Front, None, At, nth}
+use Rattle.stretches.specs.Front.{Front, None, Some, nth}
 use Rattle.stretches.proofs.Taking.{nth_in, nth_past}
 use Rattle.records.specs.Line.{says}
 use Rattle.pattern.specs.Pattern.{Pattern}
@@ -31,7 +31,7 @@ module _ (text log : List ℕ) (k : ℕ) where
     where
       go : (o : Outcome) → outcome_of text ≡ o → (g : Front) → length (shown_by o log g) ≤ 32
       go (Accepts p) e None = omega arith
-      go (Accepts p) e (At x) = omega (arith, shown-few p (says log) x, (accepts-spells text p e).few)
+      go (Accepts p) e (Some x) = omega (arith, shown-few p (says log) x, (accepts-spells text p e).few)
       go (Refuses n q) e g = omega arith
 
   -- three cells for each of 32 nodes are enough
@@ -62,17 +62,17 @@ module _ (text log : List ℕ) (k : ℕ) where
     pub reads : outcome_of text ≡ Accepts tree
     pub explains : Explains tree (says log) x (shown_in text log k)
 
-  pub shown-explained : (x : Stretch) → nth (list_of text log) k ≡ At x → Explained x
+  pub shown-explained : (x : Stretch) → nth (list_of text log) k ≡ Some x → Explained x
   shown-explained x e = go (le-or-lt 1 (refusal text log).number)
     where
       go : (1 ≤ (refusal text log).number) ⊎ ((refusal text log).number < 1) → Explained x
       go (inl h) =
-          let z : None ≡ At x = sym (nth_past (list_of text log) k (omega (arith, ap length (refused-list text log (refusal text log) refl h)))) ∙ e in
+          let z : None ≡ Some x = sym (nth_past (list_of text log) k (omega (arith, ap length (refused-list text log (refusal text log) refl h)))) ∙ e in
           let y : ◌≡◌ {A = ℕ} 0 1 = cc in
           absurd (omega arith)
       go (inr h) =
           let a = accepted-tree text log (omega arith) in
-          let n : nth (answers_in a.tree log) k ≡ At x = ap (λ (l : List Stretch). nth l k) (sym a.list) ∙ e in
+          let n : nth (answers_in a.tree log) k ≡ Some x = ap (λ (l : List Stretch). nth l k) (sym a.list) ∙ e in
           record {
             tree = a.tree;
             reads = a.reads;
@@ -84,10 +84,10 @@ module _ (text log : List ℕ) (k : ℕ) where
   pub written_none : (cells : List ℕ) → 3 ≤ length cells → length (written_shown (shown_in text log k) cells) ≡ 0 → nth (list_of text log) k ≡ None
   written_none cells room e = go (nth (list_of text log) k) refl
     where
-      first : (l : List Shown) (x : Stretch) → stretch_at l 0 ≡ At x → 1 ≤ length l
+      first : (l : List Shown) (x : Stretch) → stretch_at l 0 ≡ Some x → 1 ≤ length l
       first [] x h = let y : ◌≡◌ {A = ℕ} 0 1 = cc in absurd (omega arith)
       first (z ∷ l) x h = omega arith
 
       go : (g : Front) → nth (list_of text log) k ≡ g → g ≡ None
       go None h = refl
-      go (At x) h = absurd (omega (arith, length-take (triples_in cells) (shown_in text log k), first (shown_in text log k) x (shown-explained x h).explains.whole))
+      go (Some x) h = absurd (omega (arith, length-take (triples_in cells) (shown_in text log k), first (shown_in text log k) x (shown-explained x h).explains.whole))

@@ -10,7 +10,7 @@ use borrow.Author.Tests.{le-leb, lt-leb}
 use lib.ListN.{length}
 use Rattle.stretches.specs.Stretch.{Stretch, In, Op}
 use Rattle.stretches.specs.Front as fronts
-use Rattle.stretches.specs.Front.{None, At, first_from, first_to}
+use Rattle.stretches.specs.Front.{None, Some, first_from, first_to}
 use Rattle.stretches.specs.Operators.{apply}
 use Rattle.stretches.specs.Table.{kind_at, leaf_kind, chain_kind, next_of, stop_of}
 use Rattle.stretches.specs.Shown.{nothing}
@@ -39,13 +39,13 @@ use Rattle.witness.proofs.Triples.{grown-none, grown-then}
 -- ── What is found of an operand, as a front ──
 
 -- a front that passes the test, and one that does not
-kept-front : (p : Stretch → Bool) (o : fronts.Front) → ((y : Stretch) → o ≡ At y → p y ≡ true) → front o ≡ front (only_if p o)
+kept-front : (p : Stretch → Bool) (o : fronts.Front) → ((y : Stretch) → o ≡ Some y → p y ≡ true) → front o ≡ front (only_if p o)
 kept-front p None h = refl
-kept-front p (At y) h = sym (ap (λ (b : Bool). front (cond b (At y) None)) (h y refl))
+kept-front p (Some y) h = sym (ap (λ (b : Bool). front (cond b (Some y) None)) (h y refl))
 
-lost-front : (p : Stretch → Bool) (o : fronts.Front) → ((y : Stretch) → o ≡ At y → p y ≡ false) → none_f ≡ front (only_if p o)
+lost-front : (p : Stretch → Bool) (o : fronts.Front) → ((y : Stretch) → o ≡ Some y → p y ≡ false) → none_f ≡ front (only_if p o)
 lost-front p None h = refl
-lost-front p (At y) h = sym (ap (λ (b : Bool). front (cond b (At y) None)) (h y refl))
+lost-front p (Some y) h = sym (ap (λ (b : Bool). front (cond b (Some y) None)) (h y refl))
 
 -- what an operand gives, where it is sought by the answer's end and where from a line on, by the test that follows
 module _ (src : Source) (table s s' : List ℕ) (by_end : Bool) (c t : ℕ) (f g : Front) (good : Good src table) (rdy : Ready src table s) (lc : c < 32) where
@@ -86,15 +86,15 @@ module _ (src : Source) (table s s' : List ℕ) (by_end : Bool) (c t : ℕ) (f g
       )
 
 -- a stretch is there
-operand_at : (o : fronts.Front) {g : Front} → g ≡ front o → g.start < 65536 → o ≡ At (stretch_of g)
+operand_at : (o : fronts.Front) {g : Front} → g ≡ front o → g.start < 65536 → o ≡ Some (stretch_of g)
 operand_at None e lt = absurd (omega (arith, ap (λ (x : Front). x.start) e))
-operand_at (At y) e lt = sym (ap (λ (x : Front). At (stretch_of x)) e)
+operand_at (Some y) e lt = sym (ap (λ (x : Front). Some (stretch_of x)) e)
 
 module _ (src : Source) (table : List ℕ) (by_end : Bool) (f : Front) (c t : ℕ) (g : Front) (good : Good src table) (lc : c < 32) where
   abbrev one_found : fronts.Front
   one_found = found_one by_end (stretch_of f) t (list_over src table c)
 
-  small : (y : Stretch) → one_found ≡ At y → (y.start < 65536) × (y.end < 65536)
+  small : (y : Stretch) → one_found ≡ Some y → (y.start < 65536) × (y.end < 65536)
   small y k =
       let d = fine src table good c lc in
       let m = one_in by_end (stretch_of f) t (list_over src table c) d.rising y k in
@@ -106,7 +106,7 @@ module _ (src : Source) (table : List ℕ) (by_end : Bool) (f : Front) (c t : �
     where
       go : (o : fronts.Front) → one_found ≡ o → o ≡ None
       go None k = refl
-      go (At y) k = absurd (omega (arith, ap (λ (x : Front). x.start) (e ∙ ap front k), small y k))
+      go (Some y) k = absurd (omega (arith, ap (λ (x : Front). x.start) (e ∙ ap front k), small y k))
 
 -- it ends below line 65,536
 pub operand_low : (src : Source) (table : List ℕ) (by_end : Bool) (f : Front) (c t : ℕ) (g : Front) → Good src table → c < 32 → g ≡ operand_of src table c t by_end f → g.start < 65536 → g.end < 65536
@@ -124,12 +124,12 @@ module _ (w : Valuation) (each chain by_end later : Bool) (x : Stretch) (c t : �
   left-past e = ap (shown_all w c (Cons q qs)) (found-past (not each) chain by_end later x t (eval w q) (evals w qs) e)
 
   -- it is shown, alone or with the others
-  module _ (y : Stretch) (p : found_one by_end x t (eval w q) ≡ At y) where
+  module _ (y : Stretch) (p : found_one by_end x t (eval w q) ≡ Some y) where
     left_at : (b : Bool) → each ≡ b
         → shown_left w each chain by_end later x c t (Cons q qs) ≡ shown_from w c q y ++ shown_all w (c + nodes q) qs (cond (not b) (nothing (evals w qs)) (found_below (not each) chain later later x (cond chain (suc y.end) t) (evals w qs)))
     left_at b e =
         ap (shown_all w c (Cons q qs)) (found_at (not each) chain by_end later x t (eval w q) (evals w qs) y p
-        ∙ ap (λ (a : Bool). At y ∷ cond (not a) (nothing (evals w qs)) (found_below (not each) chain later later x (cond chain (suc y.end) t) (evals w qs))) e)
+        ∙ ap (λ (a : Bool). Some y ∷ cond (not a) (nothing (evals w qs)) (found_below (not each) chain later later x (cond chain (suc y.end) t) (evals w qs))) e)
 
     left_alone : each ≡ false → shown_left w each chain by_end later x c t (Cons q qs) ≡ shown_from w c q y
     left_alone e = left_at false e ∙ ap (λ (r : List Shown). shown_from w c q y ++ r) (all_nothing w (c + nodes q) qs (evals w qs)) ∙ append-nil (shown_from w c q y)
@@ -258,7 +258,7 @@ module _ {src : Source} {table rows : List ℕ} {v : ℕ} {f : Front} {n : ℕ} 
             })
 
         module _ (one : g.start < 65536) where
-          found : found_one by_end (stretch_of f) t list ≡ At (stretch_of g)
+          found : found_one by_end (stretch_of f) t list ≡ Some (stretch_of g)
           unfolding operand_of
           found = sym there ∙ operand_at (found_one by_end (stretch_of f) t (list_over src table c)) sought one
 

@@ -7,7 +7,7 @@ use Rattle.pattern.specs.Reading.{Outcome, Accepts, Refuses, outcome_of}
 use Rattle.meaning.specs.Refusals.{refusal}
 use Rattle.meaning.specs.Finding.{list_of}
 use Rattle.meaning.specs.Shown.{Shown, shows, of_front, shown}
-use Rattle.meaning.specs.declared.Reply.{Reply}
+use Rattle.meaning.specs.Replies.{Reply}
 
 -- ── What is shown ──
 

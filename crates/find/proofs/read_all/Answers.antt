@@ -1,15 +1,10 @@
--- `find::read_all` meets its contract. Assumes nothing.
-use Rattle.find.proofs.Turns.{turned_more, turned-end}
+-- `find::read_all` meets its contract: a piece that came is added to the input. Assumes nothing.
+use Rattle.std.proofs.Common.{◌++◌}
+use Rattle.input.proofs.Keeping.{keeps-more}
 use Rattle.find.proofs.read_all.Goals as goal
 
 pub loop-preserved : goal.loop-preserved
 loop-preserved g c =
-    let l = c.loop in
-    let r = c.read_piece in
-    turned_more l.t c.in-More.next l.pattern l.log r.new.pattern r.new.log r.result l.invariant r.ensures c.in-More.is
-
-pub returns-in-End : goal.returns-in-End
-returns-in-End g c =
-    let l = c.loop in
-    let r = c.read_piece in
-    turned-end l.t l.pattern l.log r.new.pattern r.new.log r.result l.invariant r.ensures c.in-End.is
+    let k = c.loop.invariant in
+    let m = rw c.in-Some.is at c.in_ok-next.ensures in
+    (k.0 ++ m.0, keeps-more k.0 m.0 _ _ _ _ _ _ k.1 m.1)

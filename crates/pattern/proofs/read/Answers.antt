@@ -1,44 +1,32 @@
 -- `read`: each return's answer says what holds of the text, and so is the reading of it.
 -- Assumes nothing.
-use borrow.Author.Tests.{not-true, not-false}
-use Rattle.pattern.specs.declared.Verdict.TheVariants.{Long, Misspelt, Crowded, Deep}
-use Rattle.pattern.proofs.Answering.{told-stop, told-whole, encodes, says_at, says-long, says-misspelt, says-crowded, says-deep, says-accepted, columns-long}
+use Rattle.std.proofs.lemmas.Result.{err_from_is_err_and}
+use Rattle.pattern.proofs.Answering.{told-stop, told-whole, encodes, says-crowded, says-deep, says-accepted}
 use Rattle.pattern.proofs.Outcomes.{says-reading}
 use Rattle.pattern.proofs.read.Goals as goal
 
 pub returns-then-text-gt-PATTERN_MAX : goal.returns-then-text-gt-PATTERN_MAX
-returns-then-text-gt-PATTERN_MAX c = let s = c.args.text.now in
-    says-reading s _ _ (says_at s Long _ _ c.refused.ensures.0 (says-long s _ c.if-text-gt-PATTERN_MAX.true c.refused.ensures.1))
+returns-then-text-gt-PATTERN_MAX c = says-reading _ _ (record { long = c.if-text-gt-PATTERN_MAX.true })
 
-pub returns-then-not-r : goal.returns-then-not-r
-returns-then-not-r c = let s = c.args.text.now in
-    let r = c.scan-r.result in
-    says-reading s _ _ (says_at s (Misspelt r.place) _ _ c.refused-then-not-r.ensures.0 (says-misspelt s r _ c.if-text-gt-PATTERN_MAX.false (told-stop s r c.scan-r.ensures (not-true _ c.if-not-r.true)) c.refused-then-not-r.ensures.1))
+pub returns-in_err-table : goal.returns-in_err-table
+returns-in_err-table c =
+    let p = err_from_is_err_and c.from_residual.result c.from_residual.ensures.1 in
+    rw (p.1, p.2) (says-reading _ _ (told-stop _ _ c.if-text-gt-PATTERN_MAX.false c.in_err-table.ensures))
 
-pub returns-then-r-gt-NODES : goal.returns-then-r-gt-NODES
-returns-then-r-gt-NODES c = let s = c.args.text.now in
-    let r = c.scan-r.result in
-    says-reading s _ _ (says_at s Crowded _ _ c.refused-then-r-gt-NODES.ensures.0 (says-crowded s r _ c.if-text-gt-PATTERN_MAX.false (told-whole s r c.scan-r.ensures (not-false _ c.if-not-r.false)) c.if-r-gt-NODES.true c.refused-then-r-gt-NODES.ensures.1))
+pub returns-then-table-gt-NODES : goal.returns-then-table-gt-NODES
+returns-then-table-gt-NODES c = says-reading _ _ (says-crowded _ _ c.if-text-gt-PATTERN_MAX.false (told-whole _ _ c.in_ok-table.ensures) c.if-table-gt-NODES.true)
 
-pub measure-m-requires : goal.measure-m-requires
-measure-m-requires c = let s = c.args.text.now in
-    let r = c.scan-r.result in
-    encodes s r (told-whole s r c.scan-r.ensures (not-false _ c.if-not-r.false)) c.if-r-gt-NODES.false
+pub measure-requires : goal.measure-requires
+measure-requires c = encodes _ _ (told-whole c.args.text.now _ c.in_ok-table.ensures) c.if-table-gt-NODES.false
 
-pub returns-then-m-gt-DEPTH_MAX : goal.returns-then-m-gt-DEPTH_MAX
-returns-then-m-gt-DEPTH_MAX c = let s = c.args.text.now in
-    let r = c.scan-r.result in
-    let m = told-whole s r c.scan-r.ensures (not-false _ c.if-not-r.false) in
-    says-reading s _ _ (says_at s Deep _ _ c.refused-then-m-gt-DEPTH_MAX.ensures.0 (says-deep s r c.measure-m.result _ c.if-text-gt-PATTERN_MAX.false m c.if-r-gt-NODES.false (c.measure-m.ensures (encodes s r m c.if-r-gt-NODES.false)) c.if-m-gt-DEPTH_MAX.true c.refused-then-m-gt-DEPTH_MAX.ensures.1))
-
-pub tabled-table-requires : goal.tabled-table-requires
-tabled-table-requires c = let s = c.args.text.now in
-    let r = c.scan-r.result in
-    let m = told-whole s r c.scan-r.ensures (not-false _ c.if-not-r.false) in
-    columns-long s r c.measure-m.result m c.if-r-gt-NODES.false (c.measure-m.ensures (encodes s r m c.if-r-gt-NODES.false))
+pub returns-then-measure-gt-DEPTH_MAX : goal.returns-then-measure-gt-DEPTH_MAX
+returns-then-measure-gt-DEPTH_MAX c =
+    let m = told-whole c.args.text.now _ c.in_ok-table.ensures in
+    let few = c.if-table-gt-NODES.false in
+    says-reading _ _ (says-deep _ _ _ _ c.if-text-gt-PATTERN_MAX.false m few (c.measure.ensures (encodes _ _ m few)) c.if-measure-gt-DEPTH_MAX.true)
 
 pub returns : goal.returns
-returns c = let s = c.args.text.now in
-    let r = c.scan-r.result in
-    let m = told-whole s r c.scan-r.ensures (not-false _ c.if-not-r.false) in
-    says-reading s _ _ (says-accepted s r c.measure-m.result c.tabled-table.result c.if-text-gt-PATTERN_MAX.false m c.if-r-gt-NODES.false (c.measure-m.ensures (encodes s r m c.if-r-gt-NODES.false)) c.if-m-gt-DEPTH_MAX.false c.tabled-table.ensures.0 c.tabled-table.ensures.1)
+returns c =
+    let m = told-whole c.args.text.now _ c.in_ok-table.ensures in
+    let few = c.if-table-gt-NODES.false in
+    says-reading _ _ (says-accepted _ _ _ _ c.if-text-gt-PATTERN_MAX.false m few (c.measure.ensures (encodes _ _ m few)) c.if-measure-gt-DEPTH_MAX.false)

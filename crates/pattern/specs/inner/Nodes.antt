@@ -1,21 +1,20 @@
 -- What the functions over the nodes promise each other.
 -- Assumes nothing.
-use Rattle.std.specs.Prelude.{ℕ, ◌≤◌, ◌≡◌, List, map}
-use Rattle.pattern.specs.Kinds.{kind_of, first_of}
-use Rattle.pattern.specs.Pattern.{Pattern, WellFormed, nodes, depth, preorder, sizes}
-use Rattle.pattern.specs.Rows.{padded}
-use Rattle.pattern.specs.declared.Sizes.{Sizes}
+use Rattle.std.specs.Prelude.{ℕ, ◌≤◌, ◌≡◌}
+use Rattle.pattern.specs.Pattern.{Pattern, WellFormed, nodes, depth, preorder}
+use Rattle.pattern.specs.Answer.{table}
+use Rattle.pattern.specs.declared.Table.{Table}
+use Rattle.pattern.specs.inner.Scanner.{unsized}
 
--- the columns are those of a well-formed tree of at most 32 nodes
-pub record Encodes (ks xs : List ℕ) (count : ℕ) : Type 0 where
+-- the nodes are the symbols of a well-formed tree of at most 32
+pub record Encodes (t : Table) : Type 0 where
   pub tree : Pattern
   pub formed : WellFormed tree
-  pub counted : count ≡ nodes tree
-  pub small : count ≤ 32
-  pub kinds : ks ≡ padded (map kind_of (preorder tree))
-  pub firsts : xs ≡ padded (map first_of (preorder tree))
+  pub counted : t.count ≡ nodes tree
+  pub small : t.count ≤ 32
+  pub rows : t.rows ≡ unsized (preorder tree)
 
--- the sizes and the depth of a tree
-pub record Measured (tree : Pattern) (r : Sizes) : Type 0 where
-  pub size : r.size ≡ padded (sizes tree)
-  pub depth : r.depth ≡ depth tree
+-- the table of a tree, and its depth
+pub record Measured (tree : Pattern) (t : Table) (d : ℕ) : Type 0 where
+  pub table : t ≡ table tree
+  pub depth : d ≡ depth tree

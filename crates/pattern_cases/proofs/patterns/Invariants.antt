@@ -1,10 +1,6 @@
--- `pattern_cases::patterns` ends: its loop counts down from the input's length.
--- Assumes nothing.
-use Rattle.std.proofs.Common.{◌-◌, ◌≤◌, length}
+-- The input that is left grows shorter. Assumes nothing.
+use Rattle.std.proofs.Common.{length}
 use Rattle.pattern_cases.proofs.patterns.Given as goal
 
-abbrev pub invariant-loop-left : goal.invariant-loop-left
-invariant-loop-left g l = l.left ≤ length l.input
-
-abbrev pub decreases-loop-left : goal.decreases-loop-left
-decreases-loop-left g l = l.left - 1
+abbrev pub decreases-loop-to : goal.decreases-loop-to
+decreases-loop-to g l = length l.left

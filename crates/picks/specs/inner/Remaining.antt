@@ -1,7 +1,7 @@
 -- What remains of a list after picks, and the shortest of it: private contracts and the laws of picks cite this. Assumes nothing.
 use Rattle.std.specs.Prelude.{Bool, true, ◌&&◌, List, [], ◌∷◌}
 use Rattle.stretches.specs.Stretch.{Stretch, keep}
-use Rattle.stretches.specs.Front.{Front, None, At}
+use Rattle.stretches.specs.Front.{Front, None, Some}
 use Rattle.picks.specs.Picks.{shortest, apart}
 
 -- y shares no line with any of the picks
@@ -16,4 +16,4 @@ remaining ps l = keep (clear ps) l
 -- the shortest of a list; none where it is empty
 abbrev pub shortest_of : List Stretch → Front
 shortest_of [] = None
-shortest_of (x ∷ l) = At (shortest x l)
+shortest_of (x ∷ l) = Some (shortest x l)

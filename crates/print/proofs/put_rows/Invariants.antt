@@ -1,19 +1,12 @@
--- `print::put_rows` meets its contract. The loop's invariant: the lines from number i on, written from `place` on, would end the writing of all.
--- Assumes nothing.
-use Prim.Native.Nat.{◌+◌, ◌-◌, ◌≤◌}
-use mathlib.Core.Path.{◌≡◌}
-use lib.ListN.{length, take}
-use lib.Seq.{sets}
-use Rattle.stretches.specs.Lent.{pairs}
+-- `print::put_rows` meets its contract. The loop's invariant: the lines that are left, written from `place` on, would end the writing. Assumes nothing.
+use Rattle.std.proofs.Common.{◌≡◌, ◌+◌, length, drop}
+use Rattle.std.proofs.lemmas.List.Edits.{sets}
 use Rattle.print.specs.Print.{rows}
-use Rattle.print.proofs.Printed.{from}
+use Rattle.print.specs.inner.Cells.{stretches_of}
 use Rattle.print.proofs.put_rows.Given as goal
 
-abbrev pub invariant-loop-i : goal.invariant-loop-i
-invariant-loop-i l = (l.i ≤ l.count)
-    × (length l.out ≡ length l.initial.out)
-    × (l.place + length (rows (from l.cells l.count l.i)) ≡ l.at + length (rows (take l.count (pairs l.cells))))
-    × (sets l.out l.place (rows (from l.cells l.count l.i)) ≡ sets l.initial.out l.at (rows (take l.count (pairs l.cells))))
-
-abbrev pub decreases-loop-i : goal.decreases-loop-i
-decreases-loop-i l = l.count - l.i
+abbrev pub invariant-loop-start : goal.invariant-loop-start
+invariant-loop-start l =
+    let left = rows (stretches_of (drop l.start-index l.cells)) in
+    let all = rows (stretches_of l.cells) in
+    (length l.out ≡ length l.initial.out) × (l.place + length left ≡ l.at + length all) × (sets l.out l.place left ≡ sets l.initial.out l.at all)

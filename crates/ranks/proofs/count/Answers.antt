@@ -1,16 +1,12 @@
--- `ranks::count` meets its contract: a case of the tests for each return. Assumes nothing.
-use mathlib.Core.Path.{sym, ◌∙◌}
-use native.Mathlib.Omega.{arith}
+-- `ranks::count` meets its contract: a case of the test for each. Assumes nothing.
+use Rattle.std.proofs.Common.{arith}
 use Rattle.ranks.proofs.Counting.{marks-first, marks-later}
 use Rattle.ranks.proofs.count.Goals as goal
-
-pub returns-then-s-eq0 : goal.returns-then-s-eq0
-returns-then-s-eq0 c = let a = c.args in c.through-to.ensures ∙ sym (marks-first a.words.now a.s a.e c.if-s-eq0.true)
-
-pub returns-then-to-from : goal.returns-then-to-from
-returns-then-to-from c = let a = c.args in
-    omega (arith, c.through-to.ensures, c.through-from.ensures, marks-later a.words.now a.s a.e (omega (arith, c.if-s-eq0.false)))
+use Rattle.ranks.proofs.count.Goals.{then-s-eq0, else-s-eq0}
 
 pub returns : goal.returns
 returns c = let a = c.args in
-    omega (arith, c.through-to.ensures, c.through-from.ensures, marks-later a.words.now a.s a.e (omega (arith, c.if-s-eq0.false)))
+    elim c.if-s-eq0.branch [
+      | then-s-eq0 w ↦ omega (arith, c.through.ensures, w.before-is, marks-first a.words.now a.s a.e w.if-s-eq0.true)
+      | else-s-eq0 w ↦ omega (arith, c.through.ensures, w.before-is, w.through-before.ensures, marks-later a.words.now a.s a.e (omega (arith, w.if-s-eq0.false)))
+    ]

@@ -1,10 +1,6 @@
 -- `row_union::unite` meets its contract. The loop's invariant: the first k words of the rows are united. Assumes nothing.
-use Prim.Native.Nat.{◌-◌}
 use Rattle.row_union.proofs.Uniting.{Uniting}
 use Rattle.row_union.proofs.unite.Given as goal
 
 abbrev pub invariant-loop-k : goal.invariant-loop-k
 invariant-loop-k l = Uniting l.initial.words l.words l.to l.at l.width l.k
-
-abbrev pub decreases-loop-k : goal.decreases-loop-k
-decreases-loop-k l = l.width - l.k

@@ -2,7 +2,7 @@
 -- Assumes nothing.
 use Rattle.std.specs.Prelude.{ℕ, suc, Bool, true, false, cond, ◌||◌, List, [], ◌∷◌, leb, eqb}
 use Rattle.stretches.specs.Stretch.{Stretch, Alone, Holder, Inner, Op, Or, And, Row, Then, Keep}
-use Rattle.stretches.specs.Front.{Front, None, At, first_from, first_to}
+use Rattle.stretches.specs.Front.{Front, None, Some, first_from, first_to}
 use Rattle.stretches.specs.Table.{chain_kind, proof_kind}
 use Rattle.stretches.specs.Shown.{nothing}
 
@@ -45,7 +45,7 @@ by_end (Keep f Inner) = false
 -- the front if it passes the test; else none
 abbrev pub only_if : (Stretch → Bool) → Front → Front
 only_if f None = None
-only_if f (At y) = cond (f y) (At y) None
+only_if f (Some y) = cond (f y) (Some y) None
 
 -- for the answer x, of an operand: its front from line t on, if it does not end behind x; by_end: its first to x's end, if it does not start behind x's start
 abbrev pub found_one : Bool → Stretch → ℕ → List Stretch → Front
@@ -55,7 +55,7 @@ found_one true x t l = only_if (λ y. leb y.start x.start) (first_to l x.end)
 -- an operand's, and then what comes behind one that is there, or behind none
 abbrev pub and_then : Front → (Stretch → List Front) → List Front → List Front
 and_then None f r = None ∷ r
-and_then (At y) f r = At y ∷ f y
+and_then (Some y) f r = Some y ∷ f y
 
 -- these of each operand, or of one alone; chained: each sought behind the one before; h and k: the first, and the later ones, sought by the answer's end
 abbrev pub found_below : Bool → Bool → Bool → Bool → Stretch → ℕ → List (List Stretch) → List Front

@@ -3,4 +3,4 @@ use Rattle.walk.proofs.Walk.{filled-all}
 use Rattle.walk.proofs.fill.Goals as goal
 
 pub returns : goal.returns
-returns c = record { fill_all = filled-all c.pass_over-t.ensures c.put_all.ensures.put; within = c.put_all.ensures.within }
+returns c = record { fill_all = filled-all c.new-st.ensures c.pass_over-t.ensures c.put_all.ensures.put; within = c.put_all.ensures.within }

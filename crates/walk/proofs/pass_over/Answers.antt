@@ -1,16 +1,16 @@
--- `walk::pass_over` meets its contract. The loop's invariant: k answers have been passed over. Assumes nothing.
-use Rattle.walk.proofs.Walk.{over-start, over-turn, over-end, over_done}
+-- `walk::pass_over` meets its contract: each return and turn is one law. Assumes nothing.
 use native.Mathlib.Omega.{arith}
+use Rattle.walk.proofs.Walk.{over-start, over-turn, over-end, over_done}
 use Rattle.walk.proofs.pass_over.Goals as goal
 
 pub loop-k-init : goal.loop-k-init
-loop-k-init c = (omega arith, over-start)
+loop-k-init c = over-start
 
-pub returns-then-s-ge-NONE : goal.returns-then-s-ge-NONE
-returns-then-s-ge-NONE c = over-end c.loop-k.invariant.1 c.first-f.ensures.first_of c.if-s-ge-NONE.true (omega arith)
+pub returns-in-None : goal.returns-in-None
+returns-in-None c = over-end c.loop-k.invariant c.first.ensures.first_of c.in-None.is (omega arith)
 
 pub loop-k-preserved : goal.loop-k-preserved
-loop-k-preserved c = (omega arith, over-turn c.loop-k.invariant.1 c.first-f.ensures.first_of c.if-s-ge-NONE.false)
+loop-k-preserved c = over-turn c.loop-k.invariant c.first.ensures.first_of c.in-Some.is
 
 pub returns : goal.returns
-returns c = over_done c.loop-k.invariant.1 (omega arith)
+returns c = over_done c.loop-k.invariant (omega arith)

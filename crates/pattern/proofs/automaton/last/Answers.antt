@@ -1,32 +1,35 @@
 -- `last`: each branch is a case of the end of the text, by the state.
 -- Assumes nothing.
-use mathlib.Core.Path.{◌∙◌}
+use borrow.Author.Tests.{lt-leb, le-leb, lt-ltb, le-ltb}
+use mathlib.Core.Path.{◌∙◌, sym, ap}
 use native.Mathlib.Omega.{arith}
-use Rattle.pattern.proofs.Steps.{digits-bounded}
-use Rattle.pattern.proofs.Commas.{last-low, last_more, last-whole, last-letters, last-field}
+use Rattle.stretches.specs.declared.Node as row
+use Rattle.pattern.specs.inner.Scanner.{final, end_of}
+use Rattle.pattern.proofs.Steps.{digits-bounded, end-other}
 use Rattle.pattern.proofs.automaton.last.Goals as goal
+use Rattle.pattern.proofs.automaton.last.Goals.{then-value-low-via-then-value-low, then-value-low-via-else-value-low+then-slot-field_count}
 
 pub low-requires : goal.low-requires
-low-requires c = (digits-bounded c.args.s 0 c.in-Digits.is 1000000 c.requires).4
+low-requires c = omega (arith, digits-bounded c.args.s 0 c.in-Digits.is 1000000 c.requires)
+
+pub overflow_add-slot : goal.overflow_add-slot
+overflow_add-slot c = omega (arith, digits-bounded c.args.s 0 c.in-Digits.is 1000000 c.requires)
+
+pub returns-in_default : goal.returns-in_default
+returns-in_default c = end-other c.args.s c.in_default.not-Digits
 
 pub returns-then-value-low : goal.returns-then-value-low
-returns-then-value-low c = last-low c.in-Digits.is _ c.low.ensures c.if-value-low.true
-
-pub overflow_add-field : goal.overflow_add-field
-overflow_add-field c = omega (arith, digits-bounded c.args.s 0 c.in-Digits.is 1000000 c.requires)
-
-pub returns-then-field-field_count : goal.returns-then-field-field_count
-returns-then-field-field_count c = last_more c.in-Digits.is _ c.low.ensures _ c.field_count.ensures c.if-value-low.false c.if-field-field_count.true
+unfolding end_of
+returns-then-value-low c =
+    elim c.then-value-low.branch [
+      | then-value-low-via-then-value-low w ↦ sym (ap end_of c.in-Digits.is ∙ simp (← c.low.ensures, lt-leb _ _ w.if-value-low.true))
+      | then-value-low-via-else-value-low+then-slot-field_count w ↦ sym (ap end_of c.in-Digits.is ∙ simp (← c.low.ensures, le-leb _ _ w.if-value-low.false, ← w.field_count.ensures, lt-ltb _ _ w.if-slot-field_count.true))
+    ]
 
 pub whole-requires : goal.whole-requires
 whole-requires c = let d = digits-bounded c.args.s 0 c.in-Digits.is 1000000 c.requires in
-    (d.1, omega (arith, c.with_value-t.ensures.first))
+    (d.1, omega (arith, ap (λ (h : row.Node). h.first) c.with_value.ensures, d.3))
 
-pub returns-in-Letters : goal.returns-in-Letters
-returns-in-Letters c = last-letters c.in-Letters.is
-
-pub returns-in-Field : goal.returns-in-Field
-returns-in-Field c = last-field c.in-Field.is
-
-pub returns-else-field-field_count : goal.returns-else-field-field_count
-returns-else-field-field_count c = c.whole.ensures ∙ last-whole c.in-Digits.is _ c.low.ensures _ c.field_count.ensures c.if-value-low.false _ c.with_value-t.ensures c.if-field-field_count.false
+pub returns : goal.returns
+unfolding end_of
+returns c = c.whole.ensures ∙ (ap (λ h. final h c.in-Digits.slot.need) c.with_value.ensures ∙ sym (ap end_of c.in-Digits.is ∙ simp (← c.low.ensures, le-leb _ _ c.if-value-low.false, ← c.field_count.ensures, le-ltb _ _ c.if-slot-field_count.false)))

@@ -1,58 +1,49 @@
--- `measure`: the invariants `Outer` and `Inner` hold for every tree that the columns encode.
+-- `measure`: the invariants `Outer` and `Inner` hold for every tree that the nodes encode.
 -- Assumes nothing.
-use Prim.Native.Nat.{◌+◌, ◌-◌}
-use lib.ListN.{get_or}
-use native.Mathlib.Omega.{arith}
+use Rattle.std.proofs.Common.{◌+◌, ◌-◌, arith}
+use Rattle.stretches.specs.Table.{node_at}
 use Rattle.pattern.proofs.Sizing.{outer-begin, inner-begin, inner-bounds, inner_below, inner-sum, inner-turn, outer-turn, outer-done}
 use Rattle.pattern.proofs.tree.measure.Goals as goal
 
 pub loop-v-init : goal.loop-v-init
-loop-v-init c = (omega arith, λ e. outer-begin c.args.kind c.args.first c.args.count e)
+loop-v-init c = (omega arith, λ e. outer-begin c.args.table.now e)
 
-pub loop-m-init : goal.loop-m-init
-loop-m-init c = let a = c.args in
-    let z = c.requires in
+pub loop-seen-init : goal.loop-seen-init
+loop-seen-init c = let t = c.args.table.now in
     let l = c.loop-v in
-    (omega arith, omega arith, omega arith, omega arith, λ e. inner-begin a.kind a.first a.count e l.v (l.v - 1) c.arity-m.result (omega arith) (omega arith) c.arity-m.ensures)
+    (omega arith, l.invariant.0, omega arith, omega arith, λ e. inner-begin t e l.v (l.v - 1) c.arity-seen-end.result l.table l.depth (l.invariant.1 e) (omega arith) c.arity-seen-end.ensures)
 
 pub bounds-depth-c : goal.bounds-depth-c
-bounds-depth-c c = let a = c.args in
-    let z = c.requires in
+bounds-depth-c c = let z = c.requires in
     let l = c.loop-v in
-    let i = c.loop-m in
-    omega (arith, z.small, inner_below a.kind a.first a.count z l.v (l.v - 1) i.c i.d i.m l.size l.depth (l.invariant.1 z) (i.invariant.4 z) c.loop-m-test.true)
+    let i = c.loop-seen in
+    omega (arith, z.small, inner_below c.args.table.now z l.v (l.v - 1) i.c i.d i.seen _ l.table l.depth (l.invariant.1 z) (i.invariant.4 z) c.loop-seen-test.true)
 
-pub bounds-size-c : goal.bounds-size-c
-bounds-size-c c = let a = c.args in
-    let z = c.requires in
+pub bounds-table-c : goal.bounds-table-c
+bounds-table-c c = let z = c.requires in
     let l = c.loop-v in
-    let i = c.loop-m in
-    omega (arith, z.small, inner_below a.kind a.first a.count z l.v (l.v - 1) i.c i.d i.m l.size l.depth (l.invariant.1 z) (i.invariant.4 z) c.loop-m-test.true)
+    let i = c.loop-seen in
+    omega (arith, z.small, inner_below c.args.table.now z l.v (l.v - 1) i.c i.d i.seen _ l.table l.depth (l.invariant.1 z) (i.invariant.4 z) c.loop-seen-test.true)
 
 pub overflow_add-c : goal.overflow_add-c
-overflow_add-c c = let a = c.args in
-    let z = c.requires in
+overflow_add-c c = let z = c.requires in
     let l = c.loop-v in
-    let i = c.loop-m in
-    omega (arith, z.small, inner-sum a.kind a.first a.count z l.v (l.v - 1) i.c i.d i.m l.size l.depth (l.invariant.1 z) (i.invariant.4 z) c.loop-m-test.true)
+    let i = c.loop-seen in
+    omega (arith, z.small, inner-sum c.args.table.now z l.v (l.v - 1) i.c i.d i.seen _ l.table l.depth (l.invariant.1 z) (i.invariant.4 z) c.loop-seen-test.true)
 
-pub loop-m-preserved : goal.loop-m-preserved
-loop-m-preserved c = let a = c.args in
+pub loop-seen-preserved : goal.loop-seen-preserved
+loop-seen-preserved c = let t = c.args.table.now in
     let z = c.requires in
     let l = c.loop-v in
-    let i = c.loop-m in
-    let b = inner-bounds a.kind a.first a.count z l.v (l.v - 1) (i.c + get_or l.size i.c 0) c.longer-d.result (i.m - 1) (inner-turn a.kind a.first a.count z l.v (l.v - 1) i.c i.d i.m l.size l.depth (l.invariant.1 z) (i.invariant.4 z) c.loop-m-test.true c.longer-d.result c.longer-d.ensures) in
-    (b.0, b.1, b.2, b.3, λ e. inner-turn a.kind a.first a.count e l.v (l.v - 1) i.c i.d i.m l.size l.depth (l.invariant.1 e) (i.invariant.4 e) c.loop-m-test.true c.longer-d.result c.longer-d.ensures)
+    let i = c.loop-seen in
+    let b = inner-bounds t z l.v (l.v - 1) (i.c + (node_at l.table.rows i.c).size) c.longer-d.result (i.seen + 1) _ (inner-turn t z l.v (l.v - 1) i.c i.d i.seen _ l.table l.depth (l.invariant.1 z) (i.invariant.4 z) c.loop-seen-test.true c.longer-d.result c.longer-d.ensures) in
+    (b.0, b.1, b.2, b.3, λ e. inner-turn t e l.v (l.v - 1) i.c i.d i.seen _ l.table l.depth (l.invariant.1 e) (i.invariant.4 e) c.loop-seen-test.true c.longer-d.result c.longer-d.ensures)
 
 pub loop-v-preserved : goal.loop-v-preserved
-loop-v-preserved c = let a = c.args in
-    let z = c.requires in
+loop-v-preserved c = let t = c.args.table.now in
     let l = c.loop-v in
-    let i = c.loop-m in
-    (omega arith, λ e. outer-turn a.kind a.first a.count e l.v (l.v - 1) i.c i.d i.m l.size l.depth (l.invariant.1 e) (i.invariant.4 e) (omega arith))
+    let i = c.loop-seen in
+    (omega arith, λ e. outer-turn t e l.v (l.v - 1) i.c i.d i.seen _ l.table l.depth (l.invariant.1 e) (i.invariant.4 e) c.loop-seen-test.false i.auto.seen-end)
 
 pub returns : goal.returns
-returns c = let a = c.args in
-    let z = c.requires in
-    let l = c.loop-v in
-    λ e. outer-done a.kind a.first a.count e l.v l.size l.depth (omega arith) (l.invariant.1 e)
+returns c = λ e. outer-done c.args.table.now e c.loop-v.v c.loop-v.table c.loop-v.depth (omega arith) (c.loop-v.invariant.1 e)

@@ -1,25 +1,10 @@
 -- `advance` meets its contract: the store is one more at the top's list, and without a top nothing moves. Assumes nothing.
-use native.Mathlib.Omega.{arith}
-use Rattle.taking.proofs.Tops.{movable, moved-top, moved_none}
+use Rattle.taking.specs.inner.Queue.{order_of}
+use Rattle.taking.proofs.Tops.{moved, moved_none}
 use Rattle.taking.proofs.queue.advance.Goals as goal
 
-pub offset_bounds-counts-i : goal.offset_bounds-counts-i
-offset_bounds-counts-i c = omega (arith, (movable c.args.by_end c.args.items.now c.args.ends.now c.args.counts.now c.requires c.top_of-t.result c.top_of-t.ensures c.if-x.true).here, (movable c.args.by_end c.args.items.now c.args.ends.now c.args.counts.now c.requires c.top_of-t.result c.top_of-t.ensures c.if-x.true).small, c.requires.room)
+pub returns-in-Some : goal.returns-in-Some
+returns-in-Some c = moved (order_of c.args.op) c.args.lists.now c.args.counts.now c.requires (c.in-Some.field-0-0, c.in-Some.i) c.in-Some.ensures.top c.in-Some.ensures.open.0
 
-pub bounds-counts-i : goal.bounds-counts-i
-bounds-counts-i c = omega (arith, (movable c.args.by_end c.args.items.now c.args.ends.now c.args.counts.now c.requires c.top_of-t.result c.top_of-t.ensures c.if-x.true).here, (movable c.args.by_end c.args.items.now c.args.ends.now c.args.counts.now c.requires c.top_of-t.result c.top_of-t.ensures c.if-x.true).small, c.requires.room)
-
-pub overflow_add-counts : goal.overflow_add-counts
-overflow_add-counts c = omega (arith, (movable c.args.by_end c.args.items.now c.args.ends.now c.args.counts.now c.requires c.top_of-t.result c.top_of-t.ensures c.if-x.true).here, (movable c.args.by_end c.args.items.now c.args.ends.now c.args.counts.now c.requires c.top_of-t.result c.top_of-t.ensures c.if-x.true).small, c.requires.room)
-
-pub offset_bounds-counts-i-then-x : goal.offset_bounds-counts-i-then-x
-offset_bounds-counts-i-then-x c = omega (arith, (movable c.args.by_end c.args.items.now c.args.ends.now c.args.counts.now c.requires c.top_of-t.result c.top_of-t.ensures c.if-x.true).here, (movable c.args.by_end c.args.items.now c.args.ends.now c.args.counts.now c.requires c.top_of-t.result c.top_of-t.ensures c.if-x.true).small, c.requires.room)
-
-pub bounds-counts-i-then-x : goal.bounds-counts-i-then-x
-bounds-counts-i-then-x c = omega (arith, (movable c.args.by_end c.args.items.now c.args.ends.now c.args.counts.now c.requires c.top_of-t.result c.top_of-t.ensures c.if-x.true).here, (movable c.args.by_end c.args.items.now c.args.ends.now c.args.counts.now c.requires c.top_of-t.result c.top_of-t.ensures c.if-x.true).small, c.requires.room)
-
-pub returns-then-x : goal.returns-then-x
-returns-then-x c = moved-top c.args.by_end c.args.items.now c.args.ends.now c.args.counts.now c.requires c.top_of-t.result c.top_of-t.ensures c.if-x.true
-
-pub returns-else-x : goal.returns-else-x
-returns-else-x c = moved_none c.args.by_end c.args.items.now c.args.ends.now c.args.counts.now c.requires c.top_of-t.result c.top_of-t.ensures c.if-x.false
+pub returns-in_default : goal.returns-in_default
+returns-in_default c = moved_none (order_of c.args.op) c.args.lists.now c.args.counts.now c.requires c.in_default.ensures.top

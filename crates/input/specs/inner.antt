@@ -1,2 +1,0 @@
--- What only contracts of private functions and laws cite: no public promise does.
-pub mod Parting

@@ -1,0 +1,179 @@
+-- The proof of the cycle of calls, function by function. Assumes nothing.
+use borrow.Author.Rules.{rules}
+use native.Mathlib.Omega.{arith}
+use Rattle.seek.proofs.Turns.{or-start, or_turn, or-end, span-start, span-turn, span-gone, span-end, chain-gone, chain-start, chain-turn, chain-stop, chain-break, chain-end, test-max, test-alone, test-holder, test-inner, filter-gone, filter-done, look_none}
+use mathlib.Core.Path.{sym, ◌∙◌, refl}
+use Rattle.seek.proofs.Reaching.{reach-start, reach_here, reach-gone, reach-turn, reach-out}
+use Rattle.stretches.proofs.Table.{stop-most}
+use Rattle.seek.proofs.Shapes.{no-chain}
+use Rattle.seek.proofs.Searches.{advance-start, advance-last, advance-good, advance-back, advance-turn, advance-out}
+use mathlib.Core.Logic.{inl, inr, ⊎_elim}
+use Rattle.seek.proofs.Keeping.{by_row_lem, by-list, by-none, stored, served}
+use Rattle.seek.proofs.Searched.+searching.Goals as goal
+
+-- ── `seek_or` ──
+
+pub seek_or-loop-c-init : goal.seek_or-loop-c-init
+seek_or-loop-c-init t c = (or-start (omega (arith, c.requires)) refl, omega arith)
+
+pub seek_or-loop-c-preserved : goal.seek_or-loop-c-preserved
+seek_or-loop-c-preserved t c = (or_turn (omega (arith, c.requires)) c.loop-c.invariant.0 (omega (arith, c.stop_of-stop.ensures.value)) c.seek-f.ensures c.better-best.ensures c.next_of-c.ensures.value, omega (arith, c.next_of-c.ensures.lower_bound.0 (omega arith)))
+
+pub seek_or-returns : goal.seek_or-returns
+seek_or-returns t c = λ k. or-end c.loop-c.invariant.0 (omega (arith, c.stop_of-stop.ensures.value)) k
+
+-- ── `span` ──
+
+pub span-loop-c-init : goal.span-loop-c-init
+span-loop-c-init t c = (span-start c.requires.0 c.requires.1, omega arith)
+
+pub span-returns-then-f-ge-NONE : goal.span-returns-then-f-ge-NONE
+span-returns-then-f-ge-NONE t c = λ k. span-gone c.requires.0 c.loop-c.invariant.0 (omega (arith, c.stop_of-stop.ensures.value)) c.seek-f.ensures c.if-f-ge-NONE.true refl k
+
+pub span-loop-c-preserved : goal.span-loop-c-preserved
+span-loop-c-preserved t c = (span-turn c.requires.0 c.loop-c.invariant.0 (omega (arith, c.stop_of-stop.ensures.value)) c.seek-f.ensures c.if-f-ge-NONE.false c.least-s.ensures c.most-e.ensures c.next_of-c.ensures.value, omega (arith, c.next_of-c.ensures.lower_bound.0 (omega arith)))
+
+pub span-returns : goal.span-returns
+span-returns t c = λ k. span-end c.loop-c.invariant.0 (omega (arith, c.stop_of-stop.ensures.value)) refl k
+
+-- ── `chain` ──
+
+pub chain-returns-then-a-ge-NONE : goal.chain-returns-then-a-ge-NONE
+chain-returns-then-a-ge-NONE t c = λ k. chain-gone c.requires.0 c.requires.1 c.seek-a.ensures c.if-a-ge-NONE.true refl k
+
+pub chain-loop-c-init : goal.chain-loop-c-init
+chain-loop-c-init t c = (chain-start c.next_of-c.ensures.value, omega (arith, c.next_of-c.ensures.lower_bound.0 (omega arith)))
+
+pub chain-returns-then-f-ge-NONE : goal.chain-returns-then-f-ge-NONE
+chain-returns-then-f-ge-NONE t c = λ k. chain-stop c.requires.0 c.requires.1 c.seek-a.ensures c.if-a-ge-NONE.false c.loop-c.invariant.0 k (omega (arith, c.stop_of-stop.ensures.value)) c.past-to.ensures c.seek-f.ensures c.if-f-ge-NONE.true refl
+
+pub chain-returns-then-breaks : goal.chain-returns-then-breaks
+chain-returns-then-breaks t c = λ k. chain-break c.requires.0 c.requires.1 c.seek-a.ensures c.if-a-ge-NONE.false c.loop-c.invariant.0 k (omega (arith, c.stop_of-stop.ensures.value)) c.past-to.ensures c.seek-f.ensures c.if-f-ge-NONE.false (sym c.breaks.ensures ∙ c.if-breaks.true) refl
+
+pub chain-loop-c-preserved : goal.chain-loop-c-preserved
+chain-loop-c-preserved t c = (chain-turn c.requires.0 c.loop-c.invariant.0 (omega (arith, c.stop_of-stop.ensures.value)) c.past-to.ensures c.seek-f.ensures c.if-f-ge-NONE.false (sym c.breaks.ensures ∙ c.if-breaks.false) c.next_of-c-in-loop-c.ensures.value, omega (arith, c.next_of-c-in-loop-c.ensures.lower_bound.0 (omega arith)))
+
+pub chain-returns : goal.chain-returns
+chain-returns t c = λ k. chain-end c.requires.0 c.requires.1 c.seek-a.ensures c.if-a-ge-NONE.false c.loop-c.invariant.0 k (omega (arith, c.stop_of-stop.ensures.value)) refl
+
+-- ── `reach` ──
+
+pub reach-loop-from-init : goal.reach-loop-from-init
+reach-loop-from-init t c = reach-start (omega (arith, c.requires)) c.resume-from.ensures
+
+pub reach-returns-then-e-b : goal.reach-returns-then-e-b
+reach-returns-then-e-b t c = reach_here (omega (arith, c.requires)) c.loop-from.invariant c.seek-b.ensures c.if-e-b.true c.put_passed.ensures
+
+pub reach-returns-then-b-ge-NONE : goal.reach-returns-then-b-ge-NONE
+reach-returns-then-b-ge-NONE t c = reach-gone (omega (arith, c.requires)) c.loop-from.invariant c.seek-b.ensures c.then-b-ge-NONE.either refl
+
+pub reach-loop-from-preserved : goal.reach-loop-from-preserved
+reach-loop-from-preserved t c = reach-turn (omega (arith, c.requires)) c.loop-from.invariant c.seek-b.ensures c.if-e-b.false (omega arith)
+
+pub reach-returns : goal.reach-returns
+reach-returns t c = reach-out (omega (arith, c.requires)) c.loop-from.invariant c.loop-from-test.false refl
+
+-- ── `passes` ──
+
+pub passes-returns-then-kind-eq-MAX : goal.passes-returns-then-kind-eq-MAX
+passes-returns-then-kind-eq-MAX t c = test-max c.requires.0 c.requires.1 c.if-kind-eq-MAX.true c.measure.ensures refl
+
+pub passes-returns-then-stop_of-other : goal.passes-returns-then-stop_of-other
+passes-returns-then-stop_of-other t c = test-alone c.requires.0 c.requires.1 c.if-kind-eq-MAX.false c.next_of-other.ensures.value (omega (arith, c.stop_of.ensures.value)) c.keeps.ensures
+
+pub passes-reach-b-requires : goal.passes-reach-b-requires
+passes-reach-b-requires t c = let h = c.next_of-other.ensures.lower_bound.0 (omega arith) in (omega (arith, h), omega arith)
+
+pub passes-returns-then-asks_holder : goal.passes-returns-then-asks_holder
+passes-returns-then-asks_holder t c = test-holder c.requires.0 c.requires.1 c.if-kind-eq-MAX.false c.next_of-other.ensures.value (omega (arith, c.stop_of.ensures.value)) (sym c.asks_holder.ensures ∙ c.if-asks_holder.true) c.reach-b.ensures c.keeps-then-asks_holder.ensures
+
+pub passes-seek-b-requires : goal.passes-seek-b-requires
+passes-seek-b-requires t c = let h = c.next_of-other.ensures.lower_bound.0 (omega arith) in (omega (arith, h), omega arith)
+
+pub passes-returns : goal.passes-returns
+passes-returns t c = test-inner c.requires.0 c.requires.1 c.if-kind-eq-MAX.false c.next_of-other.ensures.value (omega (arith, c.stop_of.ensures.value)) (sym c.asks_holder.ensures ∙ c.if-asks_holder.false) c.seek-b.ensures c.keeps-2.ensures
+
+-- ── `filter` ──
+
+pub filter-seek-a-requires : goal.filter-seek-a-requires
+filter-seek-a-requires t c = (search rules, omega (arith, c.requires, stop-most c.args.self.now.rows.now c.args.v))
+
+pub filter-returns-then-a-ge-NONE : goal.filter-returns-then-a-ge-NONE
+filter-returns-then-a-ge-NONE t c = λ k. filter-gone c.requires.0 c.requires.1 c.seek-a.ensures c.if-a-ge-NONE.true refl k
+
+pub filter-returns-then-passes : goal.filter-returns-then-passes
+filter-returns-then-passes t c = λ k. filter-done c.requires.0 c.requires.1 c.seek-a.ensures c.if-a-ge-NONE.false c.passes.ensures c.if-passes.true refl k
+
+pub filter-returns : goal.filter-returns
+filter-returns t c = λ k. filter-done c.requires.0 c.requires.1 c.seek-a.ensures c.if-a-ge-NONE.false c.passes.ensures c.if-passes.false refl k
+
+-- ── `look_at` ──
+
+pub look_at-returns-then-stop_of-v : goal.look_at-returns-then-stop_of-v
+look_at-returns-then-stop_of-v t c = look_none (omega (arith, c.stop_of.ensures.value)) refl
+
+pub look_at-returns-then-kind-eq-AND : goal.look_at-returns-then-kind-eq-AND
+look_at-returns-then-kind-eq-AND t c = c.span.ensures c.if-kind-eq-AND.true
+
+pub look_at-returns-then-is_chain : goal.look_at-returns-then-is_chain
+look_at-returns-then-is_chain t c = c.chain.ensures (sym c.is_chain.ensures ∙ c.if-is_chain.true)
+
+pub look_at-returns : goal.look_at-returns
+look_at-returns t c = let no = no-chain _ (sym c.is_chain.ensures ∙ c.if-is_chain.false) in
+    c.filter.ensures (c.if-kind-eq-AND.false, no.0, no.1)
+
+-- ── `advance` ──
+
+pub advance-loop-from-init : goal.advance-loop-from-init
+advance-loop-from-init t c = advance-start refl
+
+pub advance-returns-then-a-ge-NONE : goal.advance-returns-then-a-ge-NONE
+advance-returns-then-a-ge-NONE t c = λ k. advance-last c.requires.0 c.requires.1 c.loop-from.invariant c.look_at-a.ensures c.then-a-ge-NONE.either k
+
+pub advance-returns-then-settles : goal.advance-returns-then-settles
+advance-returns-then-settles t c = λ k. let s = c.settles.ensures.0 c.if-settles.true in advance-good c.requires.0 c.requires.1 c.loop-from.invariant c.look_at-a.ensures s.0 s.1 k
+
+pub advance-returns-then-a-from : goal.advance-returns-then-a-from
+advance-returns-then-a-from t c = λ k. advance-back c.requires.0 c.requires.1 c.loop-from.invariant c.look_at-a.ensures (omega arith) (c.settles.ensures.1 c.if-settles.false) c.if-a-from.true k
+
+pub advance-loop-from-preserved : goal.advance-loop-from-preserved
+advance-loop-from-preserved t c = advance-turn c.requires.0 c.requires.1 c.loop-from.invariant c.look_at-a.ensures (omega arith) (c.settles.ensures.1 c.if-settles.false) (omega arith) c.better-best.ensures
+
+pub advance-returns : goal.advance-returns
+advance-returns t c = λ k. advance-out c.requires.0 c.requires.1 c.loop-from.invariant c.loop-from-test.false k
+
+-- ── `fresh` ──
+
+pub fresh-returns-then-kind-eq-MARKS : goal.fresh-returns-then-kind-eq-MARKS
+fresh-returns-then-kind-eq-MARKS t c = by_row_lem (omega (arith, c.requires)) c.if-kind-eq-MARKS.true c.seek_row.ensures
+
+pub fresh-returns-then-kind-eq-LIST : goal.fresh-returns-then-kind-eq-LIST
+fresh-returns-then-kind-eq-LIST t c = by-list (omega (arith, c.requires)) c.if-kind-eq-LIST.true c.seek_list.ensures
+
+pub fresh-returns-then-kind-eq-OR : goal.fresh-returns-then-kind-eq-OR
+fresh-returns-then-kind-eq-OR t c = c.seek_or.ensures c.if-kind-eq-OR.true
+
+pub fresh-advance-requires : goal.fresh-advance-requires
+fresh-advance-requires t c = let l = c.has_looks.ensures.0 c.if-has_looks.true in search (rules, l)
+
+pub fresh-returns-then-has_looks : goal.fresh-returns-then-has_looks
+fresh-returns-then-has_looks t c = c.advance.ensures (c.has_looks.ensures.0 c.if-has_looks.true).1
+
+pub fresh-returns : goal.fresh-returns
+fresh-returns t c = by-none (omega (arith, c.requires)) (⊎_elim (λ h. inl (omega (arith, h, c.if-kind-eq-OR.false))) (λ h. inr h) (c.has_looks.ensures.1 c.if-has_looks.false)) c.if-kind-eq-MARKS.false c.if-kind-eq-LIST.false refl
+
+-- ── `renew` ──
+
+pub renew-returns : goal.renew-returns
+renew-returns t c = stored (omega (arith, c.requires)) c.fresh-r.ensures c.put_front.ensures
+
+-- ── `seek` ──
+
+pub seek-front-requires : goal.seek-front-requires
+seek-front-requires t c = omega (arith, (c.serves.ensures c.if-serves.true).live)
+
+pub seek-returns-then-serves : goal.seek-returns-then-serves
+seek-returns-then-serves t c = served (omega (arith, c.requires)) (c.serves.ensures c.if-serves.true) c.front.ensures
+
+pub seek-returns : goal.seek-returns
+seek-returns t c = c.renew.ensures
