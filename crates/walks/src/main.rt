@@ -2,7 +2,7 @@
 // how much came, and whether it is what the filling call wrote.
 #![tactic(auto)]
 
-ghost use Rattle.std.specs.Prelude.{◌≡◌, ◌+◌, ◌≤◌, ◌<◌};
+ghost use Rattle.std.specs.Prelude.{◌≡◌};
 ghost use Rattle.lines.specs.Lines.{line_end};
 ghost use Rattle.event_log.specs.Reading.{read_at};
 
@@ -36,14 +36,7 @@ fn verdict(rt: &impl Print, w: Walked) -> io::Result<()> {
 
 // Whether pair k of the cells is this stretch.
 fn holds(cells: &[u32], k: usize, start: usize, end: usize) -> bool {
-    if cells.len() / 2 <= k {
-        return false;
-    }
-    if wide(cells[2 * k]) == start {
-        wide(cells[2 * k + 1]) == end
-    } else {
-        false
-    }
+    k < cells.len() / 2 && wide(cells[2 * k]) == start && wide(cells[2 * k + 1]) == end
 }
 
 // ── By steps ──
@@ -66,24 +59,19 @@ fn is_none(answer: Answer) -> bool {
 fn step_through(pattern: &[u8], log: &[u8], cells: &[u32], n: usize) -> Walked {
     let opened = finder::open(pattern, log);
     let mut f = opened.finder;
-    let mut k = 0;
-    while k < n {
+    for k in 0..n {
         let s = f.step(log);
         f = s.finder;
-        let answer = s.answer;
-        if !gives(answer, cells, k) {
+        if !gives(s.answer, cells, k) {
             return Walked {
                 count: k,
                 agrees: false,
             };
         }
-        k += 1;
     }
-    let s = f.step(log);
-    let answer = s.answer;
     Walked {
-        count: k,
-        agrees: is_none(answer),
+        count: n,
+        agrees: is_none(f.step(log).answer),
     }
 }
 
@@ -104,107 +92,88 @@ fn below(log: &[u8], at: usize) -> Reading
     Mark::new(log).moved(at).passed().read()
 }
 
-// Line p by its number, by the place where it starts, or by a mark at the place where the line before it starts.
-fn line(log: &[u8], way: usize, p: usize, at: usize, before: usize) -> Reading {
-    if way == 0 {
-        return line_after(log, p);
+// How a line is come to: by its number, by the place where it starts, or by a mark at the place where the line before it starts.
+#[derive(Clone, Copy)]
+enum Way {
+    Number,
+    Place,
+    Mark,
+}
+
+fn line(log: &[u8], way: Way, p: usize, at: usize, before: usize) -> Reading {
+    match way {
+        Way::Number => line_after(log, p),
+        Way::Mark if 0 < p => below(log, before),
+        _ => read_from(log, at),
     }
-    if way == 1 {
-        return read_from(log, at);
-    }
-    if p == 0 {
-        return read_from(log, at);
-    }
-    below(log, before)
 }
 
 // A leaf asks for a code or a frame on a lane, 0 being any lane.
 #[derive(Clone, Copy)]
+enum Asks {
+    Code(u16),
+    Frame(u16),
+}
+
+#[derive(Clone, Copy)]
 struct Leaf {
-    by_frame: bool,
-    value: u16,
+    asks: Asks,
     lane: u16,
 }
 
 fn matches(leaf: Leaf, r: Record) -> bool {
-    let value = if leaf.by_frame { r.frame } else { r.code };
-    if value != leaf.value {
-        return false;
-    }
-    if leaf.lane == 0 {
-        true
-    } else {
-        r.lane == leaf.lane
-    }
+    let asked = match leaf.asks {
+        Asks::Code(code) => r.code == code,
+        Asks::Frame(frame) => r.frame == frame,
+    };
+    asked && (leaf.lane == 0 || r.lane == leaf.lane)
 }
 
-// Whether there is a line, whether the leaf matches it, and the place after it.
+// Of a line: whether the leaf matches it, and the place after it.
 #[derive(Clone, Copy)]
 struct Seen {
-    line: bool,
     hit: bool,
     next: usize,
 }
 
-fn told(leaf: Leaf, r: Reading) -> Seen {
+fn told(leaf: Leaf, r: Reading) -> Option<Seen> {
     match r {
-        Reading::NoLine => Seen {
-            line: false,
-            hit: false,
-            next: 0,
-        },
-        Reading::Damaged { next } => Seen {
-            line: true,
-            hit: false,
-            next,
-        },
-        Reading::Sound { record, next } => Seen {
-            line: true,
+        Reading::NoLine => None,
+        Reading::Damaged { next } => Some(Seen { hit: false, next }),
+        Reading::Sound { record, next } => Some(Seen {
             hit: matches(leaf, record),
             next,
-        },
+        }),
     }
-}
-
-// Whether a line is there and, where the leaf matches it, is pair k of the cells.
-fn expected(s: Seen, cells: &[u32], k: usize, p: usize) -> bool {
-    if !s.line {
-        return false;
-    }
-    if s.hit { holds(cells, k, p, p) } else { true }
-}
-
-fn one_more(k: usize, hit: bool) -> usize
-    requires { k < 18446744073709551615 }
-    ensures { result ≤ k + 1 }
-{
-    if hit { k + 1 } else { k }
 }
 
 // Goes through the lines, and once more; the cells hold the n that the leaf matches.
-fn read_through(log: &[u8], way: usize, leaf: Leaf, cells: &[u32], n: usize) -> Walked {
+fn read_through(log: &[u8], way: Way, leaf: Leaf, cells: &[u32], n: usize) -> Walked {
     let lines = lines::line_count(log);
-    let mut p = 0;
     let mut k = 0;
     let mut before = 0;
     let mut at = 0;
-    while p < lines {
-        let s = told(leaf, line(log, way, p, at, before));
-        if !expected(s, cells, k, p) {
-            return Walked {
-                count: k,
-                agrees: false,
-            };
+    for p in 0..lines {
+        // A line is there and, where the leaf matches it, is pair k of the cells.
+        let seen = match told(leaf, line(log, way, p, at, before)) {
+            Some(seen) if !seen.hit || holds(cells, k, p, p) => seen,
+            _ => {
+                return Walked {
+                    count: k,
+                    agrees: false,
+                };
+            }
+        };
+        if seen.hit {
+            k += 1;
         }
-        k = one_more(k, s.hit);
         before = at;
-        at = s.next;
-        p += 1;
+        at = seen.next;
     }
-    let s = told(leaf, line(log, way, p, at, before));
+    let last = told(leaf, line(log, way, lines, at, before));
     Walked {
         count: k,
-        agrees: if s.line { false } else { k == n },
+        agrees: last.is_none() && k == n,
     }
 }
 
@@ -221,19 +190,19 @@ fn lines_of(rt: &impl Print, pattern: &[u8], leaf: Leaf, log: &[u8]) -> io::Resu
         rt,
         pattern,
         b" by number: ",
-        read_through(log, 0, leaf, &cells, r.count),
+        read_through(log, Way::Number, leaf, &cells, r.count),
     )?;
     by(
         rt,
         pattern,
         b" by place: ",
-        read_through(log, 1, leaf, &cells, r.count),
+        read_through(log, Way::Place, leaf, &cells, r.count),
     )?;
     by(
         rt,
         pattern,
         b" by mark: ",
-        read_through(log, 2, leaf, &cells, r.count),
+        read_through(log, Way::Mark, leaf, &cells, r.count),
     )
 }
 
@@ -242,8 +211,7 @@ fn ev(rt: &impl Print, pattern: &[u8], code: u16, lane: u16, log: &[u8]) -> io::
         rt,
         pattern,
         Leaf {
-            by_frame: false,
-            value: code,
+            asks: Asks::Code(code),
             lane,
         },
         log,
@@ -255,8 +223,7 @@ fn fr(rt: &impl Print, pattern: &[u8], frame: u16, lane: u16, log: &[u8]) -> io:
         rt,
         pattern,
         Leaf {
-            by_frame: true,
-            value: frame,
+            asks: Asks::Frame(frame),
             lane,
         },
         log,
