@@ -18,7 +18,8 @@ use Rattle.meaning.specs.Refusals.{Signal, refusal, accepted}
 use Rattle.meaning.specs.Finding.{LocalText, list_of, filling}
 use Rattle.meaning.proofs.Finding.{good-pattern, accepted-number, list-few, run-accepted, run-list}
 use Rattle.finder.specs.declared.Finder.{Finder}
-use Rattle.finder.specs.declared.Answer.TheVariants.{None, Stretch}
+use Rattle.std.specs.Prelude.{Some, None}
+use Rattle.finder.specs.declared.Stretch.{Stretch}
 use Rattle.finder.specs.Promises.{stepped}
 use Rattle.finder.specs.Whole.{answer_of, after, Accepted, Steps, last, more, BySteps, Written, Shown}
 use Rattle.finder.proofs.Stepping.{step-answer}
@@ -29,28 +30,28 @@ use Rattle.finder.proofs.Stepping.{step-answer}
 pub rest-none : (l : List s.Stretch) (n : ℕ) → answer_of (front.nth l n) ≡ None → drop n l ≡ []
 rest-none [] zero e = refl
 rest-none [] (suc n) e = refl
-rest-none (x ∷ l) zero e = let z : ◌≡◌ {A = ℕ} 0 1 = cc in absurd (omega arith)
+rest-none (x ∷ l) zero e = absurd cc
 rest-none (x ∷ l) (suc n) e = rest-none l n e
 
-pub rest_some : (l : List s.Stretch) (n a b : ℕ) → answer_of (front.nth l n) ≡ Stretch a b → drop n l ≡ s.st a b ∷ drop (suc n) l
-rest_some [] zero a b e = let z : ◌≡◌ {A = ℕ} 0 1 = cc in absurd (omega arith)
-rest_some [] (suc n) a b e = let z : ◌≡◌ {A = ℕ} 0 1 = cc in absurd (omega arith)
-rest_some (x ∷ l) zero a b e = let p : x.start ≡ a = cc in let q : x.end ≡ b = cc in λ i. record { start = p i; end = q i } ∷ l
-rest_some (x ∷ l) (suc n) a b e = rest_some l n a b e
+pub rest_some : (l : List s.Stretch) (n : ℕ) (y : Stretch) → answer_of (front.nth l n) ≡ Some y → drop n l ≡ s.st y.start y.end ∷ drop (suc n) l
+rest_some [] zero y e = absurd cc
+rest_some [] (suc n) y e = absurd cc
+rest_some (x ∷ l) zero y e = let p : x.start ≡ y.start = cc in let q : x.end ≡ y.end = cc in λ i. record { start = p i; end = q i } ∷ l
+rest_some (x ∷ l) (suc n) y e = rest_some l n y e
 
 module _ (pattern log : List ℕ) where
   steps-rest : {f : Finder} {xs : List s.Stretch} → Steps log f xs → (n : ℕ) → f ≡ after pattern log n → xs ≡ drop n (list_of pattern log)
   unfolding after
   steps-rest (last e) n k = sym (rest-none (list_of pattern log) n (sym (step-answer pattern log n) ∙ sym (ap (λ (f : Finder). (stepped f log).answer) k) ∙ e))
-  steps-rest (more a b e rest) n k =
-      ap (λ (ys : List s.Stretch). s.st a b ∷ ys) (steps-rest rest (suc n) (ap (λ (f : Finder). (stepped f log).finder) k))
-      ∙ sym (rest_some (list_of pattern log) n a b (sym (step-answer pattern log n) ∙ sym (ap (λ (f : Finder). (stepped f log).answer) k) ∙ e))
+  steps-rest (more x e rest) n k =
+      ap (λ (ys : List s.Stretch). s.st x.start x.end ∷ ys) (steps-rest rest (suc n) (ap (λ (f : Finder). (stepped f log).finder) k))
+      ∙ sym (rest_some (list_of pattern log) n x (sym (step-answer pattern log n) ∙ sym (ap (λ (f : Finder). (stepped f log).answer) k) ∙ e))
 
   steps-there : (n : ℕ) (rest : List s.Stretch) → drop n (list_of pattern log) ≡ rest → Steps log (after pattern log n) rest
   unfolding after
   steps-there n [] e = last (step-answer pattern log n ∙ ap (λ (l : List s.Stretch). answer_of (front.head_of l)) e)
   steps-there n (x ∷ xs) e =
-      more x.start x.end (step-answer pattern log n ∙ ap (λ (l : List s.Stretch). answer_of (front.head_of l)) e)
+      more (record { start = x.start; end = x.end }) (step-answer pattern log n ∙ ap (λ (l : List s.Stretch). answer_of (front.head_of l)) e)
       (steps-there (suc n) xs (drop-step n (list_of pattern log) x xs e).0)
 
   -- the steps up to the first none give exactly the list

@@ -1,19 +1,18 @@
 -- The finder after n steps, acceptance, and the stretches of a pattern in a log as the calls give them: docs/FORMATS.md, "The undamaged run". Assumes nothing.
-use Rattle.std.specs.Prelude.{ℕ, zero, suc, ◌*◌, ◌≡◌, ◌⊎◌, false, List, [], ◌∷◌, take}
+use Rattle.std.specs.Prelude.{ℕ, zero, suc, ◌*◌, ◌≡◌, ◌⊎◌, false, List, [], ◌∷◌, take, Option, Some, None}
 use Rattle.stretches.specs.Stretch as s
 use Rattle.stretches.specs.Front as front
 use Rattle.stretches.specs.Filling.{filled}
 use Rattle.stretches.specs.Lent.{pairs}
 use Rattle.meaning.specs.Finding.{list_of, filling}
 use Rattle.finder.specs.declared.Finder.{Finder}
-use Rattle.finder.specs.declared.Answer.{Answer}
-use Rattle.finder.specs.declared.Answer.TheVariants.{None, Stretch}
+use Rattle.finder.specs.declared.Stretch.{Stretch}
 use Rattle.finder.specs.Promises.{opened, stepped}
 
 -- the stretch, or "none"
-abbrev pub answer_of : front.Front → Answer
+abbrev pub answer_of : front.Front → Option Stretch
 answer_of front.None = None
-answer_of (front.At x) = Stretch x.start x.end
+answer_of (front.At x) = Some (record { start = x.start; end = x.end })
 
 -- the finder after n steps from the opening, each with that log: its next answer is number n of the list (`step-answer` of proofs/Stepping.antt)
 unfoldable pub after : List ℕ → List ℕ → ℕ → Finder
@@ -33,7 +32,7 @@ pub record Accepted (pattern log : List ℕ) : Type 0 where
 -- the stretches of the steps up to the first "none"
 pub data Steps (log : List ℕ) : Finder → List s.Stretch → Type 0 where
   last : {f : Finder} → (stepped f log).answer ≡ None → Steps log f []
-  more : {f : Finder} (start end : ℕ) {xs : List s.Stretch} → (stepped f log).answer ≡ Stretch start end → Steps log (stepped f log).finder xs → Steps log f (s.st start end ∷ xs)
+  more : {f : Finder} (x : Stretch) {xs : List s.Stretch} → (stepped f log).answer ≡ Some x → Steps log (stepped f log).finder xs → Steps log f (s.st x.start x.end ∷ xs)
 
 -- from the opening on
 abbrev pub BySteps : List ℕ → List ℕ → List s.Stretch → Type 0
