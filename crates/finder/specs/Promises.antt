@@ -2,7 +2,7 @@
 use Rattle.std.specs.Prelude.{ℕ, zero, suc, ◌+◌, ◌*◌, Bool, cond, ◌&&◌, List, [], length, get_or, replicate, ltb, eqb, Option, Some, None}
 use Rattle.stretches.specs.declared.Node.{Node}
 use Rattle.stretches.specs.declared.Stretch.{Stretch}
-use Rattle.stretches.specStretch.{st}
+use Rattle.stretches.specs.Stretch.{st}
 use Rattle.stretches.specs.Front.{onward}
 use Rattle.stretches.specs.Filling.{written, filled, more_after}
 use Rattle.meaning.specs.Meaning.{table_in}
