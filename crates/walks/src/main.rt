@@ -90,11 +90,12 @@ fn matches(leaf: Leaf, r: Record) -> bool {
     holds && (lane == 0 || r.lane == lane)
 }
 
-// Goes through the lines as they are read, and once more; filled are those that the leaf matches.
+// Goes through the lines as they are read, and once more; the first n of those filled are those that the leaf matches.
 fn read_through<F: Fn(Line) -> Reading>(
     lines: usize,
     leaf: Leaf,
     filled: &[[u32; 2]],
+    n: usize,
     read: F,
 ) -> Walked
     requires { F.IsAlwaysCallable read }
@@ -127,38 +128,32 @@ fn read_through<F: Fn(Line) -> Reading>(
         };
     }
     match read(line) {
-        Reading::NoLine if k == filled.len() => Ok(k),
+        Reading::NoLine if k == n => Ok(k),
         _ => Err(k),
     }
+}
+
+fn by(rt: &impl Print, pattern: &[u8], how: &str, w: Walked) -> io::Result<()> {
+    rt.write_all(pattern)?;
+    print!(rt; " by {how}: ")?;
+    verdict(rt, w)
 }
 
 // A line by its number, by the place where it starts, and by a mark at the place where the line before it starts.
 fn lines_of(rt: &impl Print, pattern: &[u8], leaf: Leaf, log: &[u8]) -> io::Result<()> {
     let mut cells = [0u32; 1024];
-    let r = finder::fill(pattern, log, &mut cells, 0);
-    let filled = first(cells.as_chunks().0, r.count);
+    let n = finder::fill(pattern, log, &mut cells, 0).count;
+    let filled = cells.as_chunks().0;
     let lines = lines::line_count(log);
-    rt.write_all(pattern)?;
-    print!(rt; " by number: ")?;
-    verdict(
-        rt,
-        read_through(lines, leaf, filled, |line| line_after(log, line.number)),
-    )?;
-    rt.write_all(pattern)?;
-    print!(rt; " by place: ")?;
-    verdict(
-        rt,
-        read_through(lines, leaf, filled, |line| read_from(log, line.at)),
-    )?;
-    rt.write_all(pattern)?;
-    print!(rt; " by mark: ")?;
-    verdict(
-        rt,
-        read_through(lines, leaf, filled, |line| match line.before {
-            None => read_from(log, line.at),
-            Some(before) => below(log, before),
-        }),
-    )
+    let number = read_through(lines, leaf, filled, n, |l| line_after(log, l.number));
+    by(rt, pattern, "number", number)?;
+    let place = read_through(lines, leaf, filled, n, |l| read_from(log, l.at));
+    by(rt, pattern, "place", place)?;
+    let mark = read_through(lines, leaf, filled, n, |l| match l.before {
+        None => read_from(log, l.at),
+        Some(before) => below(log, before),
+    });
+    by(rt, pattern, "mark", mark)
 }
 
 // ── All of it ──
