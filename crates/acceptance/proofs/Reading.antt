@@ -1,10 +1,11 @@
 -- What each return of `read_both` shows, and the list of an accepted pattern's table. Assumes nothing.
 use Prim.Native.Nat.{ℕ, ◌≤◌}
 use mathlib.Core.Path.{◌≡◌, refl, sym, ap, ap₂, subst, ◌∙◌}
-use mathlib.Core.Bool.{cond}
-use mathlib.Core.List.{List}
+use mathlib.Core.Bool.{Bool, true, false, cond}
+use mathlib.Core.List.{List, []}
 use lib.ListN.{length, replicate}
 use borrow.Author.Tests.{le-ltb}
+use native.Mathlib.Omega.{arith}
 use Rattle.std.specs.Prelude.{Ok, Err}
 use Rattle.stretches.specs.declared.Node.{Node}
 use Rattle.stretches.specs.Table.{no_node}
@@ -18,10 +19,12 @@ use Rattle.pattern.specs.declared.Table.{Table}
 use Rattle.pattern.proofs.Outcomes.{accepts-spells, read-accepts, read-refuses}
 use Rattle.pattern.proofs.Rows.{table-tree}
 use Rattle.meaning.specs.Meaning.{answers_in, table_in}
-use Rattle.meaning.specs.Refusals.{refused, accepted, refusal}
+use Rattle.meaning.specs.declared.Refusal.{Refusal}
+use Rattle.meaning.specs.Refusals.{Signal, refused, accepted, long_log, of_pattern, refusal}
 use Rattle.meaning.specs.Finding.{list_of}
 use Rattle.meaning.specs.Replies.{number_of, place_of, told}
-use Rattle.meaning.proofs.Finding.{bad-pattern, good-pattern, accepted-list, accepted-number}
+use Rattle.meaning.proofs.Finding.{bad-pattern, good-pattern, refused-list, accepted-list, accepted-number}
+use Rattle.meaning.proofs.Replies.{some_number}
 use Rattle.meaning.proofs.Table.{table-answers}
 use Rattle.acceptance.specs.Readied.{rows_in}
 
@@ -74,3 +77,17 @@ module _ (text log : List ℕ) where
   -- the list of an accepted pattern's table is the pattern's
   pub table-list : (refusal text log).number ≡ 0 → table_in (rows_in text log) log ≡ list_of text log
   table-list e = let a = accepted-tree e in table-answers (rows_in text log) a.tree log a.stands a.few ∙ sym a.list
+
+  -- of a refused call nothing is found
+  pub refused-empty : (e : Refusal) → refused (number_of e) (place_of e) ≡ refusal text log → list_of text log ≡ []
+  refused-empty e k = refused-list text log (refused (number_of e) (place_of e)) (sym k) (some_number e)
+
+  -- and its table is zeros
+  pub refused-rows : (e : Refusal) → refused (number_of e) (place_of e) ≡ refusal text log → rows_in text log ≡ replicate 32 no_node
+  unfolding refusal
+  refused-rows e k = go (long_log log) (outcome_of text) k
+    where
+      go : (b : Bool) (o : Outcome) → refused (number_of e) (place_of e) ≡ cond b (refused 1 0) (of_pattern o) → cond b (replicate 32 no_node) (table_of o).rows ≡ replicate 32 no_node
+      go true o h = refl
+      go false (Refuses n q) h = refl
+      go false (Accepts p) h = absurd (omega (arith, some_number e, ap (λ (x : Signal). x.number) h))

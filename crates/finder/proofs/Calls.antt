@@ -1,42 +1,49 @@
 -- What each return of the finder's functions shows. Assumes nothing.
 use Prim.Native.Nat.{ℕ, zero, suc, ◌+◌, ◌-◌, ◌*◌, ◌≤◌, ◌<◌}
-use mathlib.Core.Path.{◌≡◌, refl, sym, ap, ap₂, subst, ◌∙◌}
+use mathlib.Core.Path.{◌≡◌, refl, sym, ap, ap₂, subst, subst₂, ◌∙◌}
 use mathlib.Core.Logic.{inl, inr}
 use mathlib.Core.Bool.{Bool, true, false, not, cond, ◌||◌}
 use mathlib.Core.List.{List, [], ◌∷◌, ◌++◌, map}
 use lib.ListN.{length, get_or, take, drop, length-map, length-take}
-use lib.Dec.{ltb}
-use borrow.Author.Tests.{lt-ltb, le-ltb, ltb-true, ltb-false, not-true, not-false}
+use lib.Dec.{ltb, eqb}
+use borrow.Author.Tests.{lt-ltb, le-ltb, ltb-false}
 use native.Mathlib.Omega.{arith}
 use Rattle.basics.proofs.Basics.{cases, and-true}
-use Rattle.stretches.specs.Stretch.{Stretch, Fine, In}
+use Rattle.stretches.specs.declared.Node.{Node}
+use Rattle.stretches.specs.declared.Stretch.{Stretch}
+use Rattle.stretches.specs.Stretch.{Fine, In}
 use Rattle.stretches.specs.Front.{onward}
 use Rattle.stretches.specs.Filling.{flat, pairs_in, written, filled}
-use Rattle.stretches.specs.Table.{kind_at, first_at, second_at}
+use Rattle.stretches.specs.Table.{kind_at, first_at, second_at, no_node}
 use Rattle.stretches.proofs.Fine.{fine-none, fine-marks}
 use Rattle.stretches.proofs.Steps.{in-onward, onward-all}
 use Rattle.stretches.proofs.Table.{fine-list}
 use Rattle.records.specs.Line.{says}
 use Rattle.meaning.specs.Meaning.{hits, over_table, table_in}
-use Rattle.meaning.specs.Refusals.{accepted, long_log, refusal}
+use Rattle.std.specs.Prelude.{Option, Ok, Err, Some, None, replicate}
+use Rattle.meaning.specs.declared.Refusal.{Refusal}
+use Rattle.meaning.specs.Refusals.{Signal, refused, accepted, long_log, refusal}
 use Rattle.meaning.specs.Finding.{list_of, filling}
-use Rattle.meaning.specs.Replies.{FillReply}
+use Rattle.meaning.specs.Replies.{number_of, place_of, FillReply, fill_reply}
 use Rattle.meaning.proofs.Run.{says-few}
 use Rattle.meaning.proofs.Table.{table-in}
-use Rattle.meaning.proofs.Finding.{good-pattern, refused-list, accepted-number}
-use Rattle.acceptance.specs.declared.Readied.{Readied}
-use Rattle.acceptance.specs.Readied.{rows_in, readied}
-use Rattle.acceptance.proofs.Reading.{table-list}
+use Rattle.meaning.proofs.Finding.{accepted-number}
+use Rattle.acceptance.specs.Readied.{rows_in}
+use Rattle.acceptance.proofs.Reading.{table-list, refused-empty, refused-rows}
+use Rattle.meaning.proofs.Replies.{number_some}
+use Rattle.plan.specs.Marks.{Marks}
+use Rattle.plan.proofs.Planning.{marks-first}
 use Rattle.walk.specs.declared.Walked.{Walked}
-use Rattle.seek.specs.Source.{Source, list_over, Good}
+use Rattle.seek.specs.declared.Searched.{Searched}
+use Rattle.seek.specs.Source.{source_of}
 use Rattle.walk.specs.Filling.{Filling, FillAll}
 use Rattle.finder.specs.declared.Finder.{Finder}
-use Rattle.finder.specs.Promises.{list_in, among, waits, handed, none, offered, line_after, refilled, step_over}
+use Rattle.finder.specs.Promises.{fresh, open_reply, opened, list_in}
 
 -- ── The lists ──
 
 -- every table's list is fine
-pub fine-in : (rows log : List ℕ) → Fine 65536 (list_in rows log)
+pub fine-in : (rows : List Node) (log : List ℕ) → Fine 65536 (list_in rows log)
 unfolding list_in
 fine-in rows log = cases (long_log log) (λ b. Fine 65536 (cond b [] (table_in rows log))) (λ e. fine-none 65536)
     (λ e. subst (Fine 65536) (sym (table-in rows log)) (fine-list (over_table rows (says log)) rows 65536 (λ v h.
@@ -68,48 +75,52 @@ filling-none l f cells e = subst (λ (x : List Stretch). Filling x f cells (reco
     empty = nothing (pairs_in cells) f
 
 -- a log that is too long has no answer
-pub long-none : (rows log : List ℕ) (line f : ℕ) (cells : List ℕ) → 61440 < length log → Filling (onward (list_in rows log) line) f cells (record { count = 0; more = false }) cells
+pub long-none : (rows : List Node) (log : List ℕ) (line f : ℕ) (cells : List ℕ) → 61440 < length log → Filling (onward (list_in rows log) line) f cells (record { count = 0; more = false }) cells
 unfolding list_in
 long-none rows log line f cells h =
     filling-none (onward (list_in rows log) line) f cells (ap (λ b. onward (cond b [] (table_in rows log)) line) (lt-ltb 61440 (length log) h))
 
 -- any other has the table's
-pub short-list : (rows log : List ℕ) (line f : ℕ) (cells : List ℕ) (w : Walked) (cells' : List ℕ) → length log ≤ 61440
+pub short-list : (rows : List Node) (log : List ℕ) (line f : ℕ) (cells : List ℕ) (w : Walked) (cells' : List ℕ) → length log ≤ 61440
     → Filling (onward (table_in rows log) line) f cells w cells' → Filling (onward (list_in rows log) line) f cells w cells'
 unfolding list_in
 short-list rows log line f cells w cells' h g =
     subst (λ (l : List Stretch). Filling (onward l line) f cells w cells') (sym (ap (λ b. cond b [] (table_in rows log)) (le-ltb 61440 (length log) h))) g
 
--- over the machine's table
-pub machine-fills : {src : Source} {t : List ℕ} {l : List Stretch} {line f : ℕ} {cells : List ℕ} {r : Walked} {cells' : List ℕ}
-    → Good src t × (list_over src t 0 ≡ l) → FillAll src t line f cells r cells' → Filling (onward l line) f cells r cells'
-machine-fills {line = line} {f} {cells} {r} {cells'} m g = subst (λ (l : List Stretch). Filling (onward l line) f cells r cells') m.1 (g.fills m.0)
+-- over a log's marks
+pub marks-fill : {rows : List Node} {log : List ℕ} {s : Searched} {line f : ℕ} {old new cells : List ℕ} {r : Walked} {cells' : List ℕ}
+    → Marks rows log s → length log ≤ 61440 → FillAll (source_of s) s.rows.now line f old r new → old ≡ cells → new ≡ cells' → Filling (onward (list_in rows log) line) f cells r cells'
+marks-fill {rows} {log} {s} {line = line} {f} {old} {new} {cells} {r} {cells'} m h g e k =
+    short-list rows log line f cells r cells' h
+    (subst (λ (c : List ℕ). Filling (onward (table_in rows log) line) f c r cells') e
+    (subst₂ (λ (l : List Stretch) (c : List ℕ). Filling (onward l line) f old r c) (marks-first m) k (g.fills m.good)))
 
 -- the filling call
-module _ (text log : List ℕ) (f : ℕ) (cells : List ℕ) (r : Readied) (e : r ≡ readied text log) where
-  number_is : r.number ≡ (refusal text log).number
-  number_is = ap (λ (x : Readied). x.number) e
-
-  whole : (w : Walked) (cells' : List ℕ) → Filling (list_of text log) f cells w cells'
+module _ (text log : List ℕ) (f : ℕ) (cells : List ℕ) where
+  -- the reply of a signal, and of what was written
+  whole : (r : Signal) → r ≡ refusal text log → (w : Walked) (cells' : List ℕ) → Filling (list_of text log) f cells w cells'
       → (◌≡◌ {A = FillReply} (record { number = r.number; place = r.place; count = w.count; more = w.more }) (filling text log f cells)) × (cells' ≡ filled (list_of text log) f cells)
-  whole w cells' g = ((λ i. record { number = (e i).number; place = (e i).place; count = g.count i; more = g.more i }), g.wrote)
+  whole r e w cells' g = ((λ i. record { number = (e i).number; place = (e i).place; count = g.count i; more = g.more i }), g.wrote)
 
-  pub fill-refused : (r.number ≡ 0 → ⊥)
-      → (◌≡◌ {A = FillReply} (record { number = r.number; place = r.place; count = 0; more = false }) (filling text log f cells)) × (cells ≡ filled (list_of text log) f cells)
-  fill-refused n = whole (record { count = 0; more = false }) cells (filling-none (list_of text log) f cells (refused-list text log (refusal text log) refl (omega (arith, number_is))))
+  pub fill-refused : (e : Refusal) → refused (number_of e) (place_of e) ≡ refusal text log → (fill_reply (Err e) ≡ filling text log f cells) × (cells ≡ filled (list_of text log) f cells)
+  fill-refused e k = whole (refused (number_of e) (place_of e)) k (record { count = 0; more = false }) cells (filling-none (list_of text log) f cells (refused-empty text log e k))
 
-  pub fill-accepted : r.number ≡ 0 → (w : Walked) (cells' : List ℕ) → Filling (onward (list_in r.rows log) 0) f cells w cells'
-      → (◌≡◌ {A = FillReply} (record { number = 0; place = 0; count = w.count; more = w.more }) (filling text log f cells)) × (cells' ≡ filled (list_of text log) f cells)
-  fill-accepted z w cells' g =
-      let zero_number : (refusal text log).number ≡ 0 = sym number_is ∙ z in
-      let k = accepted-number text log zero_number in
-      let a : refusal text log ≡ accepted = good-pattern text log k.tree k.brief k.reads in
-      let l : onward (list_in r.rows log) 0 ≡ list_of text log =
-      onward-all (list_in r.rows log) (fine-in r.rows log).rising ∙ ap (λ (x : Readied). list_in x.rows log) e ∙ list-in text log zero_number in
-      let h = subst (λ (x : List Stretch). Filling x f cells w cells') l g in
-      ((λ i. record { number = (sym a i).number; place = (sym a i).place; count = h.count i; more = h.more i }), h.wrote)
+  pub fill-accepted : accepted ≡ refusal text log → (rows : List Node) → rows ≡ rows_in text log → (w : Walked) (cells' : List ℕ) → Filling (onward (list_in rows log) 0) f cells w cells'
+      → (fill_reply (Ok (record { count = w.count; more = w.more })) ≡ filling text log f cells) × (cells' ≡ filled (list_of text log) f cells)
+  fill-accepted k rows e w cells' g =
+      let l : onward (list_in rows log) 0 ≡ list_of text log =
+      onward-all (list_in rows log) (fine-in rows log).rising ∙ ap (λ (r : List Node). list_in r log) e ∙ list-in text log (ap (λ (x : Signal). x.number) (sym k)) in
+      whole accepted k w cells' (subst (λ (x : List Stretch). Filling x f cells w cells') l g)
 
 -- ── Stepping ──
+
+-- a refused opening
+pub open-refused : (text log : List ℕ) (e : Refusal) (f : Finder) → refused (number_of e) (place_of e) ≡ refusal text log → f ≡ fresh (replicate 32 no_node) None
+    → open_reply (record { outcome = Err e; finder = f }) ≡ opened text log
+open-refused text log e f k h =
+    let from : None ≡ cond (eqb (refusal text log).number 0) (Some 0) None =
+    sym (ap (λ (r : Signal). cond (eqb r.number 0) (Some 0) None) (sym k) ∙ ap (λ b. cond b (Some 0) None) (number_some e)) in
+    λ i. record { number = (k i).number; place = (k i).place; finder = (h ∙ ap₂ fresh (sym (refused-rows text log e k)) from) i }
 
 -- the buffer of the next answers
 module _ (l : List Stretch) (fine : Fine 65536 l) (line : ℕ) (found : List ℕ) (wide : length found ≡ 128) where
@@ -138,56 +149,10 @@ module _ (l : List Stretch) (fine : Fine 65536 l) (line : ℕ) (found : List ℕ
       start_small (written rest 0 found) (drop (2 * length (written rest 0 found)) found)
       (λ s x m. let k = (in-onward l line s x (taken_in (pairs_in found) rest s x m)).0 in omega (arith, fine.sound s x k, fine.below s x k)) (n - 1) (omega arith)
 
-module _ (l : List Stretch) (f : Finder) where
-  pub step-closed : not f.live ≡ true → none f ≡ step_over l f
-  unfolding step_over
-  step-closed h = sym (ap (λ b. cond b (cond (waits f || f.used) (offered f) (offered (refilled l f))) (none f)) (not-true f.live h))
-
-  module _ (live : not f.live ≡ false) where
-    open_step : cond (waits f || f.used) (offered f) (offered (refilled l f)) ≡ step_over l f
-    unfolding step_over
-    open_step = sym (ap (λ b. cond b (cond (waits f || f.used) (offered f) (offered (refilled l f))) (none f)) (not-false f.live live))
-
-    pub step_waits : (b : Bool) → b ≡ waits f → b ≡ true → handed f ≡ step_over l f
-    step_waits b e h = let k : waits f ≡ true = sym e ∙ h in
-        sym (ap (λ t. cond t (handed f) (none f)) k) ∙ sym (ap (λ t. cond (t || f.used) (offered f) (offered (refilled l f))) k) ∙ open_step
-
-    pub step-used : (b : Bool) → b ≡ waits f → b ≡ false → f.used ≡ true → none f ≡ step_over l f
-    step-used b e h u = let k : waits f ≡ false = sym e ∙ h in
-        sym (ap (λ t. cond t (handed f) (none f)) k) ∙ sym (ap₂ (λ t u. cond (t || u) (offered f) (offered (refilled l f))) k u) ∙ open_step
-
-    pub step-on : (b : Bool) → b ≡ waits f → b ≡ false → f.used ≡ false → (g : Finder) → g ≡ refilled l f → offered g ≡ step_over l f
-    step-on b e h u g r = ap offered r ∙ sym (ap₂ (λ t u. cond (t || u) (offered f) (offered (refilled l f))) (sym e ∙ h) u) ∙ open_step
-
-pub offer-some : (f : Finder) (b : Bool) → b ≡ waits f → b ≡ true → handed f ≡ offered f
-offer-some f b e h = sym (ap (λ t. cond t (handed f) (none f)) (sym e ∙ h))
-
-pub offer-none : (f : Finder) (b : Bool) → b ≡ waits f → b ≡ false → none f ≡ offered f
-offer-none f b e h = sym (ap (λ t. cond t (handed f) (none f)) (sym e ∙ h))
-
-pub waits-room : {b : Bool} (given count : ℕ) → b ≡ among given count → b ≡ true → given < 64
-waits-room given count e h = ltb-true given 64 (and-true (ltb given count) (ltb given 64) (sym e ∙ h)).1
-
-pub line-more : (line : ℕ) (found : List ℕ) (n : ℕ) → (n ≡ 0 → ⊥) → get_or found (2 * (n - 1)) 0 + 1 ≡ line_after line found n
-line-more line found zero h = absurd (h refl)
-line-more line found (suc n) h = let z : suc n - 1 ≡ n = omega arith in ap (λ (k : ℕ). get_or found (2 * k) 0 + 1) z
-
 -- finding the next answers
-module _ (l : List Stretch) (f : Finder) (w : Walked) (found : List ℕ) (g : Filling (onward l f.from) 0 f.found w found) where
+module _ (l : List Stretch) (line : ℕ) (f : Finder) (w : Walked) (found : List ℕ) (g : Filling (onward l line) 0 f.found w found) where
   pub refill-room : Fine 65536 l → length f.found ≡ 128 → (w.count ≤ 64) × (0 < w.count → get_or found (2 * (w.count - 1)) 0 < 65536)
   refill-room fine wide = (
-    omega (arith, g.count, found-few l fine f.from f.found wide),
-    λ h. subst (λ (c : List ℕ). get_or c (2 * (w.count - 1)) 0 < 65536) (sym g.wrote) (start_fits l fine f.from f.found wide w.count g.count h),
+    omega (arith, g.count, found-few l fine line f.found wide),
+    λ h. subst (λ (c : List ℕ). get_or c (2 * (w.count - 1)) 0 < 65536) (sym g.wrote) (start_fits l fine line f.found wide w.count g.count h),
   )
-
-  pub refill-is : (line : ℕ) → line ≡ line_after f.from found w.count
-      → ◌≡◌ {A = Finder} (record { live = f.live; rows = f.rows; found = found; count = w.count; given = 0; from = line; used = not w.more }) (refilled l f)
-  refill-is line e = λ i. record {
-    live = f.live;
-    rows = f.rows;
-    found = g.wrote i;
-    count = g.count i;
-    given = 0;
-    from = (e ∙ ap₂ (line_after f.from) g.wrote g.count) i;
-    used = ap not g.more i;
-  }

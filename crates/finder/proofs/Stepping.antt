@@ -1,7 +1,7 @@
 -- The finder after n steps: what is found and not yet given, and then what is still to be sought, is the list from number n on. Assumes nothing.
 use Prim.Native.Nat.{ℕ, zero, suc, ◌+◌, ◌*◌, ◌≤◌, ◌<◌}
 use mathlib.Core.Path.{◌≡◌, refl, sym, ap, ap₂, subst, ◌∙◌}
-use mathlib.Core.Bool.{Bool, true, false, not, cond, ◌||◌}
+use mathlib.Core.Bool.{Bool, true, false, not, cond, ◌&&◌}
 use mathlib.Core.List.{List, [], ◌∷◌, ◌++◌, append-nil}
 use lib.ListN.{length, get_or, take, drop, length-take, length-drop, length-append, take-append-drop, drop_of_length-le}
 use lib.Seq.{drop-cons, drop-drop, drop-nil, get_or-take, take_all}
@@ -10,7 +10,9 @@ use borrow.Author.Tests.{lt-ltb, ltb-true, ltb-false, eqb-true, eqb-false}
 use native.Mathlib.Omega.{arith}
 use Rattle.basics.proofs.Basics.{cases, and-true, true-and, le-or-lt}
 use mathlib.Core.Logic.{◌⊎◌, ◌≢◌, inl, inr}
-use Rattle.stretches.specs.Stretch.{Stretch, st, Rising}
+use Rattle.stretches.specs.declared.Node.{Node}
+use Rattle.stretches.specs.declared.Stretch.{Stretch}
+use Rattle.stretches.specs.Stretch.{st, Rising}
 use Rattle.stretches.specs.Front.{onward, head_of, nth}
 use Rattle.stretches.specs.Filling.{flat, pairs_in, written, filled, more_after}
 use Rattle.stretches.specs.Lent.{pairs}
@@ -21,10 +23,10 @@ use Rattle.meaning.specs.Finding.{list_of}
 use Rattle.meaning.proofs.Finding.{refused-list}
 use Rattle.finder.specs.declared.Finder.{Finder}
 use Rattle.finder.specs.declared.Stepped.{Stepped}
-use Rattle.finder.specs.declared.Answer.TheVariants as answer
+use Rattle.std.specs.Prelude.{Option, Some, None}
 use Rattle.acceptance.specs.Readied.{rows_in}
-use Rattle.finder.specs.Promises.{list_in, among, waits, handed, none, offered, line_after, refilled, step_over, opened, stepped}
-use Rattle.finder.specs.Whole.{answer_of, after, after_all}
+use Rattle.finder.specs.Promises.{list_in, waits, handed, none, offered, line_after, refilled, sought, step_over, opened, stepped}
+use Rattle.finder.specs.Whole.{after, after_all}
 use Rattle.finder.proofs.Calls.{fine-in, list-in}
 
 distinct : ◌≡◌ {A = Bool} true false → ⊥
@@ -40,7 +42,7 @@ flat_start (x ∷ xs) after (suc m) h =
     ap (λ (i : ℕ). get_or (x.start ∷ x.end ∷ (flat xs ++ after)) i 0) z ∙ flat_start xs after m (omega arith)
 
 -- where no answer is found, there is none
-empty-rest : (rest : List Stretch) (found : List ℕ) → length found ≡ 128 → among 0 (length (written rest 0 found)) ≡ false → rest ≡ []
+empty-rest : (rest : List Stretch) (found : List ℕ) → length found ≡ 128 → ltb 0 (length (written rest 0 found)) && ltb 0 64 ≡ false → rest ≡ []
 empty-rest [] found wide e = refl
 empty-rest (x ∷ rest) found wide e =
     let n = length (written (x ∷ rest) 0 found) in
@@ -52,12 +54,16 @@ empty-rest (x ∷ rest) found wide e =
 abbrev kept : Finder → List Stretch
 kept f = pairs (take (2 * f.count) f.found)
 
+-- what is still to be sought
+abbrev ahead_by : List Stretch → Option ℕ → List Stretch
+ahead_by l None = []
+ahead_by l (Some line) = onward l line
+
 record Leads (l : List Stretch) (n : ℕ) (f : Finder) : Type 0 where
-  live : f.live ≡ true
   wide : length f.found ≡ 128
   few : f.count ≤ 64
   upto : f.given ≤ f.count
-  rest : drop n l ≡ drop f.given (kept f) ++ cond f.used [] (onward l f.from)
+  rest : drop n l ≡ drop f.given (kept f) ++ ahead_by l f.from
 
 next : (l : List Stretch) (n : ℕ) (xs : List Stretch) → drop n l ≡ xs → drop (n + 1) l ≡ drop 1 xs
 next l n xs e = sym (drop-drop 1 n l) ∙ ap (drop 1) e
@@ -75,7 +81,7 @@ module _ (l : List Stretch) (n : ℕ) (f : Finder) (c : Leads l n f) where
       all (inr h) = absurd (distinct (sym (true-and (ltb f.given f.count) (ltb f.given 64) (lt-ltb f.given f.count h) (lt-ltb f.given 64 (omega (arith, c.few)))) ∙ e))
 
   record Offers (r : Stepped) : Type 0 where
-    answer : r.answer ≡ answer_of (nth l n)
+    answer : r.answer ≡ nth l n
     leads : Leads l (n + 1) r.finder
 
   -- a finder offers the list's number n, where nothing waits only at its end
@@ -86,33 +92,33 @@ module _ (l : List Stretch) (n : ℕ) (f : Finder) (c : Leads l n f) where
       let g = ltb-true f.given f.count h.0 in
       let cells = take (2 * f.count) f.found in
       let x = st (get_or f.found (2 * f.given) 0) (get_or f.found (2 * f.given + 1) 0) in
-      let more = drop (f.given + 1) (kept f) ++ cond f.used [] (onward l f.from) in
+      let more = drop (f.given + 1) (kept f) ++ ahead_by l f.from in
       let z : suc f.given ≡ f.given + 1 = omega arith in
       let first : get_or (kept f) f.given (st 0 0) ≡ x =
       pair-at cells f.given (omega (arith, length-take (2 * f.count) f.found, c.wide, c.few))
       ∙ ap₂ st (get_or-take (2 * f.count) f.found (2 * f.given) 0 (omega arith)) (get_or-take (2 * f.count) f.found (2 * f.given + 1) 0 (omega arith)) in
       let on : drop n l ≡ x ∷ more =
-      c.rest ∙ ap (λ (ys : List Stretch). ys ++ cond f.used [] (onward l f.from))
+      c.rest ∙ ap (λ (ys : List Stretch). ys ++ ahead_by l f.from)
       (drop-cons (kept f) f.given (st 0 0) (omega (arith, kept-length)) ∙ ap₂ (λ (y : Stretch) (k : ℕ). y ∷ drop k (kept f)) first z) in
       record {
-        answer = sym (ap (λ (ys : List Stretch). answer_of (head_of ys)) on);
-        leads = record { live = c.live; wide = c.wide; few = c.few; upto = omega arith; rest = next l n (x ∷ more) on };
+        answer = sym (ap (λ (ys : List Stretch). head_of ys) on);
+        leads = record { wide = c.wide; few = c.few; upto = omega arith; rest = next l n (x ∷ more) on };
       })
       (λ e. record {
-        answer = sym (ap (λ (ys : List Stretch). answer_of (head_of ys)) (end e));
-        leads = record { live = c.live; wide = c.wide; few = c.few; upto = c.upto; rest = next l n [] (end e) ∙ sym (end e) ∙ c.rest };
+        answer = sym (ap (λ (ys : List Stretch). head_of ys) (end e));
+        leads = record { wide = c.wide; few = c.few; upto = c.upto; rest = next l n [] (end e) ∙ sym (end e) ∙ c.rest };
       })
 
-  -- the next answers found
-  module _ (r : Rising l) (empty : waits f ≡ false) (unused : f.used ≡ false) where
+  -- the next answers found, from the line on
+  module _ (r : Rising l) (empty : waits f ≡ false) (line : ℕ) (seeks : f.from ≡ Some line) where
     abbrev ahead : List Stretch
-    ahead = onward l f.from
+    ahead = onward l line
 
     abbrev some : List Stretch
     some = written ahead 0 f.found
 
     left : drop n l ≡ ahead
-    left = c.rest ∙ ap₂ (λ (ys : List Stretch) b. ys ++ cond b [] ahead) (given-all empty) unused
+    left = c.rest ∙ ap₂ (λ (ys : List Stretch) (o : Option ℕ). ys ++ ahead_by l o) (given-all empty) seeks
 
     half : pairs_in f.found ≡ 64
     half = omega (arith, c.wide)
@@ -124,7 +130,7 @@ module _ (l : List Stretch) (n : ℕ) (f : Finder) (c : Leads l n f) where
     found-wide = omega (arith, length-append (flat some) (drop (2 * length some) f.found), length-flat some, length-drop (2 * length some) f.found, c.wide, some-few)
 
     -- what follows the found answers starts after the last of them
-    after_last : (m : ℕ) → length some ≡ suc m → length some < length ahead → ahead ≡ some ++ onward l (line_after f.from (filled ahead 0 f.found) (suc m))
+    after_last : (m : ℕ) → length some ≡ suc m → length some < length ahead → ahead ≡ some ++ onward l (line_after line (filled ahead 0 f.found) (suc m))
     after_last m e h =
         let k : ℕ = pairs_in f.found in
         let full : k ≡ suc m = omega (arith, length-take k ahead) in
@@ -132,55 +138,65 @@ module _ (l : List Stretch) (n : ℕ) (f : Finder) (c : Leads l n f) where
         let here : drop m ahead ≡ x ∷ drop (suc m) ahead = drop-cons ahead m (st 0 0) (omega arith) in
         let start : get_or (filled ahead 0 f.found) (2 * m) 0 ≡ x.start =
         flat_start some (drop (2 * length some) f.found) m (omega arith) ∙ ap (λ (y : Stretch). y.start) (get_or-take k ahead m (st 0 0) (omega arith)) in
-        let line : suc x.start ≡ get_or (filled ahead 0 f.found) (2 * m) 0 + 1 = omega arith in
-        sym (take-append-drop k ahead) ∙ ap (λ (ys : List Stretch). some ++ ys) (ap (λ (i : ℕ). drop i ahead) full ∙ onward-after l r m f.from x (drop (suc m) ahead) here ∙ ap (onward l) line)
+        let next-line : suc x.start ≡ get_or (filled ahead 0 f.found) (2 * m) 0 + 1 = omega arith in
+        sym (take-append-drop k ahead) ∙ ap (λ (ys : List Stretch). some ++ ys) (ap (λ (i : ℕ). drop i ahead) full ∙ onward-after l r m line x (drop (suc m) ahead) here ∙ ap (onward l) next-line)
 
-    all_there : ahead ≡ some ++ cond (not (more_after ahead 0 f.found)) [] (onward l (line_after f.from (filled ahead 0 f.found) (length some)))
-    all_there = cases (more_after ahead 0 f.found) (λ b. ahead ≡ some ++ cond (not b) [] (onward l (line_after f.from (filled ahead 0 f.found) (length some))))
+    abbrev on : Option ℕ
+    on = Some (line_after line (filled ahead 0 f.found) (length some))
+
+    all_there : ahead ≡ some ++ ahead_by l (cond (more_after ahead 0 f.found) on None)
+    all_there = cases (more_after ahead 0 f.found) (λ b. ahead ≡ some ++ ahead_by l (cond b on None))
         (λ e. by (length some) refl (ltb-true (0 + length some) (length ahead) e))
         (λ e. sym (append-nil some ∙ take_all (pairs_in f.found) ahead (omega (arith, length-take (pairs_in f.found) ahead, ltb-false (0 + length some) (length ahead) e))))
       where
-        by : (m : ℕ) → length some ≡ m → 0 + length some < length ahead → ahead ≡ some ++ onward l (line_after f.from (filled ahead 0 f.found) m)
+        by : (m : ℕ) → length some ≡ m → 0 + length some < length ahead → ahead ≡ some ++ onward l (line_after line (filled ahead 0 f.found) m)
         by zero e h = absurd (omega (arith, half, length-take (pairs_in f.found) ahead))
         by (suc m) e h = after_last m e (omega arith)
 
-    refills : Leads l n (refilled l f)
+    refills : Leads l n (refilled l line f)
     refills = record {
-      live = c.live;
       wide = found-wide;
       few = some-few;
       upto = omega arith;
-      rest = left ∙ all_there ∙ ap (λ (ys : List Stretch). ys ++ cond (not (more_after ahead 0 f.found)) [] (onward l (line_after f.from (filled ahead 0 f.found) (length some)))) (sym (filled-front ahead 0 f.found));
+      rest = left ∙ all_there ∙ ap (λ (ys : List Stretch). ys ++ ahead_by l (cond (more_after ahead 0 f.found) on None)) (sym (filled-front ahead 0 f.found));
     }
 
     -- where none is found the list is at its end
-    none_found : waits (refilled l f) ≡ false → drop n l ≡ []
+    none_found : waits (refilled l line f) ≡ false → drop n l ≡ []
     none_found e = left ∙ empty-rest ahead f.found c.wide e
 
 -- a step gives the list's number n, and leads to the next
 step-offers : (l : List Stretch) → Rising l → (n : ℕ) (f : Finder) (c : Leads l n f) → Offers l n f c (step_over l f)
 unfolding step_over
 step-offers l r n f c =
-    subst (λ b. Offers l n f c (cond b (cond (waits f || f.used) (offered f) (offered (refilled l f))) (none f))) (sym c.live)
-    (cases (waits f) (λ b. waits f ≡ b → Offers l n f c (cond (b || f.used) (offered f) (offered (refilled l f)))) (λ e k. offers l n f c (λ z. absurd (distinct (sym e ∙ z))))
-    (λ e k. cases f.used (λ b. f.used ≡ b → Offers l n f c (cond b (offered f) (offered (refilled l f))))
-    (λ u q. offers l n f c (λ z. c.rest ∙ ap₂ (λ (ys : List Stretch) b. ys ++ cond b [] (onward l f.from)) (given-all l n f c e) u))
-    (λ u q. let o = offers l n (refilled l f) (refills l n f c r e u) (none_found l n f c r e u) in record { answer = o.answer; leads = o.leads }) refl) refl)
+    cases (waits f) (λ b. Offers l n f c (offered (cond b f (sought l f.from f)))) (λ e. offers l n f c (λ z. absurd (distinct (sym e ∙ z)))) (λ e. seek e f.from refl)
+  where
+    seek : waits f ≡ false → (o : Option ℕ) → f.from ≡ o → Offers l n f c (offered (sought l o f))
+    seek e None q = offers l n f c (λ z. c.rest ∙ ap₂ (λ (ys : List Stretch) (o : Option ℕ). ys ++ ahead_by l o) (given-all l n f c e) q)
+    seek e (Some line) q = let o = offers l n (refilled l line f) (refills l n f c r e line q) (none_found l n f c r e line q) in record { answer = o.answer; leads = o.leads }
 
 -- ── The finder after n steps ──
 
 step-rows : (l : List Stretch) (f : Finder) → (step_over l f).finder.rows ≡ f.rows
 unfolding step_over
-step-rows l f = cases f.live (λ b. (cond b (cond (waits f || f.used) (offered f) (offered (refilled l f))) (none f)).finder.rows ≡ f.rows)
-    (λ e. cases (waits f || f.used) (λ b. (cond b (offered f) (offered (refilled l f))).finder.rows ≡ f.rows) (λ e. offered-rows f) (λ e. offered-rows (refilled l f))) (λ e. refl)
+step-rows l f = offered-rows (cond (waits f) f (sought l f.from f)) ∙ cases (waits f) (λ b. (cond b f (sought l f.from f)).rows ≡ f.rows) (λ e. refl) (λ e. sought-rows f.from)
   where
     offered-rows : (g : Finder) → (offered g).finder.rows ≡ g.rows
     offered-rows g = cases (waits g) (λ b. (cond b (handed g) (none g)).finder.rows ≡ g.rows) (λ e. refl) (λ e. refl)
 
--- a finder that is not live says none and stays the same, whatever the log
-pub closed_none : (f : Finder) (log : List ℕ) → f.live ≡ false → stepped f log ≡ none f
+    sought-rows : (o : Option ℕ) → (sought l o f).rows ≡ f.rows
+    sought-rows None = refl
+    sought-rows (Some line) = refl
+
+-- nothing waits, and there is no line to seek from
+abbrev Shut : Finder → Type 0
+Shut f = (waits f ≡ false) × (f.from ≡ None)
+
+-- such a finder says none and stays the same, whatever the log
+pub closed_none : (f : Finder) (log : List ℕ) → Shut f → stepped f log ≡ none f
 unfolding step_over
-closed_none f log e = ap (λ b. cond b (cond (waits f || f.used) (offered f) (offered (refilled (list_in f.rows log) f))) (none f)) e
+closed_none f log h = let l = list_in f.rows log in
+    ap₂ (λ b (o : Option ℕ). offered (cond b f (sought l o f))) h.0 h.1 ∙ ap (λ b. cond b (handed f) (none f)) h.0
 
 module _ (pattern log : List ℕ) where
   -- accepted
@@ -197,16 +213,15 @@ module _ (pattern log : List ℕ) where
     rows-after (suc n) = step-rows (list_in (after pattern log n).rows log) (after pattern log n) ∙ rows-after n
 
     list-after : (n : ℕ) → list_in (after pattern log n).rows log ≡ l
-    list-after n = ap (λ (r : List ℕ). list_in r log) (rows-after n) ∙ list-in pattern log ok
+    list-after n = ap (λ (r : List Node). list_in r log) (rows-after n) ∙ list-in pattern log ok
 
     leads-after : (n : ℕ) → Leads l n (after pattern log n)
     unfolding after
     leads-after zero = record {
-      live = ap (λ (k : ℕ). eqb k 0) ok;
       wide = refl;
       few = omega arith;
       upto = omega arith;
-      rest = sym (onward-all l rising);
+      rest = sym (onward-all l rising) ∙ ap (λ (k : ℕ). ahead_by l (cond (eqb k 0) (Some 0) None)) (sym ok);
     }
     leads-after (suc n) =
         let f = after pattern log n in
@@ -214,28 +229,28 @@ module _ (pattern log : List ℕ) where
         subst (λ (k : ℕ). Leads l k (stepped f log).finder) z
         (subst (λ (m : List Stretch). Leads l (n + 1) (step_over m f).finder) (sym (list-after n)) (step-offers l rising n f (leads-after n)).leads)
 
-    answer-accepted : (n : ℕ) → (stepped (after pattern log n) log).answer ≡ answer_of (nth l n)
+    answer-accepted : (n : ℕ) → (stepped (after pattern log n) log).answer ≡ nth l n
     answer-accepted n = ap (λ (m : List Stretch). (step_over m (after pattern log n)).answer) (list-after n) ∙ (step-offers l rising n (after pattern log n) (leads-after n)).answer
 
   -- refused
   module _ (no : eqb (refusal pattern log).number 0 ≡ false) where
-    closed_after : (n : ℕ) → (after pattern log n).live ≡ false
+    closed_after : (n : ℕ) → Shut (after pattern log n)
     unfolding after
-    closed_after zero = no
-    closed_after (suc n) = let f = after pattern log n in ap (λ (r : Stepped). r.finder.live) (closed_none f log (closed_after n)) ∙ closed_after n
+    closed_after zero = (refl, ap (λ b. cond b (Some 0) None) no)
+    closed_after (suc n) = let f = after pattern log n in subst (λ (r : Stepped). Shut r.finder) (sym (closed_none f log (closed_after n))) (closed_after n)
 
-    answer-refused : (n : ℕ) → (stepped (after pattern log n) log).answer ≡ answer_of (nth (list_of pattern log) n)
+    answer-refused : (n : ℕ) → (stepped (after pattern log n) log).answer ≡ nth (list_of pattern log) n
     answer-refused n =
         let f = after pattern log n in
         let empty : list_of pattern log ≡ [] = refused-list pattern log (refusal pattern log) refl (omega (arith, eqb-false (refusal pattern log).number 0 no)) in
         ap (λ (r : Stepped). r.answer) (closed_none f log (closed_after n))
-        ∙ sym (ap (λ (m : List Stretch). answer_of (nth m n)) empty ∙ ap (λ (m : List Stretch). answer_of (head_of m)) (drop-nil n))
+        ∙ sym (ap (λ (m : List Stretch). nth m n) empty ∙ ap (λ (m : List Stretch). head_of m) (drop-nil n))
 
   -- the step after n steps gives number n of the list, and past its end none
-  pub step-answer : (n : ℕ) → (stepped (after pattern log n) log).answer ≡ answer_of (nth (list_of pattern log) n)
+  pub step-answer : (n : ℕ) → (stepped (after pattern log n) log).answer ≡ nth (list_of pattern log) n
   step-answer n = go (eqb (refusal pattern log).number 0) refl
     where
-      go : (b : Bool) → eqb (refusal pattern log).number 0 ≡ b → (stepped (after pattern log n) log).answer ≡ answer_of (nth (list_of pattern log) n)
+      go : (b : Bool) → eqb (refusal pattern log).number 0 ≡ b → (stepped (after pattern log n) log).answer ≡ nth (list_of pattern log) n
       go true e = answer-accepted (eqb-true (refusal pattern log).number 0 e) n
       go false e = answer-refused e n
 
@@ -250,43 +265,35 @@ stays f h (x ∷ logs) log = ap (λ (r : Stepped). stepped (after_all r.finder l
 pub refused_none : (pattern log : List ℕ) → (opened pattern log).number ≢ 0 → (logs : List (List ℕ)) (log' : List ℕ)
     → stepped (after_all (opened pattern log).finder logs) log' ≡ none (opened pattern log).finder
 refused_none pattern log n =
-    let f = (opened pattern log).finder in
-    let shut : f.live ≡ false = cases (eqb (refusal pattern log).number 0) (λ b. b ≡ false) (λ e. absurd (n (eqb-true (refusal pattern log).number 0 e))) (λ e. refl) in
-    stays f (λ log'. closed_none f log' shut)
-
--- a finder that is not live, or is used up with nothing waiting
-abbrev Shut : Finder → Type 0
-Shut f = (f.live ≡ false) ⊎ ((waits f ≡ false) × (f.used ≡ true))
-
-shut_none : (f : Finder) → Shut f → (log : List ℕ) → stepped f log ≡ none f
-unfolding step_over
-shut_none f (inl h) log = closed_none f log h
-shut_none f (inr h) log =
-    ap₂ (λ t u. cond f.live (cond (t || u) (cond t (handed f) (none f)) (offered (refilled (list_in f.rows log) f))) (none f)) h.0 h.1 ∙ cases f.live (λ b. cond b (none f) (none f) ≡ none f) (λ e. refl) (λ e. refl)
-
--- a finder that offers none, and has nothing more to seek
-offers-none : (f : Finder) → (waits f ≡ false → f.used ≡ true) → (offered f).answer ≡ answer.None → Shut (offered f).finder
-offers-none f u = cases (waits f) (λ b. waits f ≡ b → (cond b (handed f) (none f)).answer ≡ answer.None → Shut (cond b (handed f) (none f)).finder)
-    (λ e k z. let y : ◌≡◌ {A = ℕ} 0 1 = cc in absurd (omega arith)) (λ e k z. inr (e, u e)) refl
-
-step-shut : (l : List Stretch) (f : Finder) → length f.found ≡ 128 → (step_over l f).answer ≡ answer.None → Shut (step_over l f).finder
-unfolding step_over
-step-shut l f wide = cases f.live (λ b. f.live ≡ b → (by b).answer ≡ answer.None → Shut (by b).finder)
-    (λ _ _. cases (waits f || f.used) (λ b. (cond b (offered f) (offered (refilled l f))).answer ≡ answer.None → Shut (cond b (offered f) (offered (refilled l f))).finder)
-    (λ e. offers-none f (λ k. sym (ap (λ t. t || f.used) k) ∙ e)) (λ e. offers-none (refilled l f) (λ k. used (empty-rest (onward l f.from) f.found wide k))))
-    (λ e _ z. inl e) refl
+    stays (opened pattern log).finder (λ log'. closed_none (opened pattern log).finder log' (refl, shut))
   where
-    by : Bool → Stepped
-    by b = cond b (cond (waits f || f.used) (offered f) (offered (refilled l f))) (none f)
+    shut : cond {A = Option ℕ} (eqb (refusal pattern log).number 0) (Some 0) None ≡ None
+    shut = cases (eqb (refusal pattern log).number 0) (λ b. cond {A = Option ℕ} b (Some 0) None ≡ None) (λ e. absurd (n (eqb-true (refusal pattern log).number 0 e))) (λ e. refl)
 
+-- a finder that offers none, and has then nothing to seek
+offers-none : (f : Finder) → (waits f ≡ false → f.from ≡ None) → (offered f).answer ≡ None → Shut (offered f).finder
+offers-none f u = cases (waits f) (λ b. waits f ≡ b → (cond b (handed f) (none f)).answer ≡ None → Shut (cond b (handed f) (none f)).finder)
+    (λ e k z. absurd cc) (λ e k z. (e, u e)) refl
+
+step-shut : (l : List Stretch) (f : Finder) → length f.found ≡ 128 → (step_over l f).answer ≡ None → Shut (step_over l f).finder
+unfolding step_over
+step-shut l f wide = cases (waits f) (λ b. waits f ≡ b → (offered (cond b f (sought l f.from f))).answer ≡ None → Shut (offered (cond b f (sought l f.from f))).finder)
+    (λ _ e. offers-none f (λ k. absurd (distinct (sym e ∙ k)))) (λ _ e. seek f.from refl) refl
+  where
     nothing-more : (n : ℕ) → ltb (0 + length {A = Stretch} (take n [])) 0 ≡ false
     nothing-more zero = refl
     nothing-more (suc n) = refl
 
-    used : onward l f.from ≡ [] → (refilled l f).used ≡ true
-    used e = ap (λ (xs : List Stretch). not (more_after xs 0 f.found)) e ∙ ap not (nothing-more (pairs_in f.found))
+    at_end : (line : ℕ) → onward l line ≡ [] → (refilled l line f).from ≡ None
+    at_end line e =
+        let on = λ (xs : List Stretch). Some (line_after line (filled xs 0 f.found) (length (written xs 0 f.found))) in
+        ap (λ (xs : List Stretch). cond (more_after xs 0 f.found) (on xs) None) e ∙ ap (λ b. cond b (on []) None) (nothing-more (pairs_in f.found))
+
+    seek : (o : Option ℕ) → f.from ≡ o → (offered (sought l o f)).answer ≡ None → Shut (offered (sought l o f)).finder
+    seek None e = offers-none f (λ k. e)
+    seek (Some line) e = offers-none (refilled l line f) (λ k. at_end line (empty-rest (onward l line) f.found wide k))
 
 -- after "none" comes "none", whatever the logs
-pub none_stays : (f : Finder) → length f.found ≡ 128 → (log : List ℕ) → (stepped f log).answer ≡ answer.None
+pub none_stays : (f : Finder) → length f.found ≡ 128 → (log : List ℕ) → (stepped f log).answer ≡ None
     → (logs : List (List ℕ)) (log' : List ℕ) → stepped (after_all (stepped f log).finder logs) log' ≡ none (stepped f log).finder
-none_stays f wide log e = let g = (stepped f log).finder in stays g (shut_none g (step-shut (list_in f.rows log) f wide e))
+none_stays f wide log e = let g = (stepped f log).finder in stays g (λ x. closed_none g x (step-shut (list_in f.rows log) f wide e))

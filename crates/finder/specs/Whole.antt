@@ -1,19 +1,11 @@
 -- The finder after n steps, acceptance, and the stretches of a pattern in a log as the calls give them: docs/FORMATS.md, "The undamaged run". Assumes nothing.
-use Rattle.std.specs.Prelude.{ℕ, zero, suc, ◌*◌, ◌≡◌, ◌⊎◌, false, List, [], ◌∷◌, take}
-use Rattle.stretches.specs.Stretch as s
-use Rattle.stretches.specs.Front as front
+use Rattle.std.specs.Prelude.{ℕ, zero, suc, ◌*◌, ◌≡◌, ◌⊎◌, false, List, [], ◌∷◌, take, Some, None}
+use Rattle.stretches.specs.declared.Stretch.{Stretch}
 use Rattle.stretches.specs.Filling.{filled}
 use Rattle.stretches.specs.Lent.{pairs}
 use Rattle.meaning.specs.Finding.{list_of, filling}
 use Rattle.finder.specs.declared.Finder.{Finder}
-use Rattle.finder.specs.declared.Answer.{Answer}
-use Rattle.finder.specs.declared.Answer.TheVariants.{None, Stretch}
 use Rattle.finder.specs.Promises.{opened, stepped}
-
--- the stretch, or "none"
-abbrev pub answer_of : front.Front → Answer
-answer_of front.None = None
-answer_of (front.Some x) = Stretch x.start x.end
 
 -- the finder after n steps from the opening, each with that log: its next answer is number n of the list (`step-answer` of proofs/Stepping.antt)
 unfoldable pub after : List ℕ → List ℕ → ℕ → Finder
@@ -31,20 +23,20 @@ pub record Accepted (pattern log : List ℕ) : Type 0 where
   pub fills : (from : ℕ) (cells : List ℕ) → (filling pattern log from cells).number ≡ 0
 
 -- the stretches of the steps up to the first "none"
-pub data Steps (log : List ℕ) : Finder → List s.Stretch → Type 0 where
+pub data Steps (log : List ℕ) : Finder → List Stretch → Type 0 where
   last : {f : Finder} → (stepped f log).answer ≡ None → Steps log f []
-  more : {f : Finder} (start end : ℕ) {xs : List s.Stretch} → (stepped f log).answer ≡ Stretch start end → Steps log (stepped f log).finder xs → Steps log f (s.st start end ∷ xs)
+  more : {f : Finder} (x : Stretch) {xs : List Stretch} → (stepped f log).answer ≡ Some x → Steps log (stepped f log).finder xs → Steps log f (x ∷ xs)
 
 -- from the opening on
-abbrev pub BySteps : List ℕ → List ℕ → List s.Stretch → Type 0
+abbrev pub BySteps : List ℕ → List ℕ → List Stretch → Type 0
 BySteps pattern log xs = Steps log (opened pattern log).finder xs
 
 -- the stretches that the filling call writes from number 0 with cells enough to say "done"
-pub record Written (pattern log : List ℕ) (xs : List s.Stretch) : Type 0 where
+pub record Written (pattern log : List ℕ) (xs : List Stretch) : Type 0 where
   pub cells : List ℕ
   pub done : (filling pattern log 0 cells).more ≡ false
   pub shows : xs ≡ pairs (take (2 * (filling pattern log 0 cells).count) (filled (list_of pattern log) 0 cells))
 
 -- the stretches of a pattern in a log, whether taken one by one or filled into a buffer
-abbrev pub Shown : List ℕ → List ℕ → List s.Stretch → Type 0
+abbrev pub Shown : List ℕ → List ℕ → List Stretch → Type 0
 Shown pattern log xs = BySteps pattern log xs ⊎ Written pattern log xs

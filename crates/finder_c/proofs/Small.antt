@@ -9,7 +9,8 @@ use lib.ListN.{length, drop, length-take, length-drop}
 use lib.Dec.{eqb}
 use borrow.Author.Tests.{eqb-true}
 use native.Mathlib.Omega.{arith}
-use Rattle.stretches.specs.Stretch.{Stretch, Op, Or, And, Row, Then, Keep, length_of, answers}
+use Rattle.stretches.specs.declared.Stretch.{Stretch}
+use Rattle.stretches.specs.Stretch.{Op, Or, And, Row, Then, Keep, length_of, answers}
 use Rattle.stretches.specs.Front.{Front, None, Some, nth}
 use Rattle.stretches.specs.Taking.{begun, taking}
 use Rattle.stretches.specs.Operators.{operator_of, apply}

@@ -1,4 +1,4 @@
--- What `set` and `unset` do to the words: the word of the line has its bit set by an or, and cleared by an and. Assumes nothing.
+-- What `put` does to the words: the word of the line has its bit set by an or, and cleared by an and. Assumes nothing.
 use Prim.Native.Nat.{ℕ, ◌+◌, ◌-◌, ◌*◌, ◌/◌, ◌%◌, ◌^◌, ◌≤◌, ◌<◌}
 use mathlib.Core.Path.{◌≡◌, refl, sym, ap, ◌∙◌}
 use mathlib.Core.Bool.{Bool, true, false, cond, ◌&&◌}

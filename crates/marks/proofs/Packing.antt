@@ -1,4 +1,4 @@
--- Lines packed one after another: a further line that is marked changes the row's words as `set` does, and one that is not leaves them. Assumes nothing.
+-- Lines packed one after another: a further line that is marked changes the row's words as `put` does, and one that is not leaves them. Assumes nothing.
 use Prim.Native.Nat.{ℕ, zero, suc, ◌+◌, ◌-◌, ◌*◌, ◌/◌, ◌%◌, ◌^◌, ◌≤◌, ◌<◌}
 use mathlib.Core.Path.{◌≡◌, refl, sym, ap, ap₂, ◌∙◌}
 use mathlib.Core.Logic.{◌⊎◌, inl, inr}

@@ -1,8 +1,10 @@
 -- Laws of the replies: number and place fix a refusal, a reply fixes the result, and what a result signals. Assumes nothing.
-use Prim.Native.Nat.{ℕ}
+use Prim.Native.Nat.{ℕ, ◌≤◌}
 use mathlib.Core.Path.{◌≡◌, refl, sym, ap, ap₂, ◌∙◌}
 use mathlib.Core.Bool.{false, cond}
 use lib.Dec.{eqb}
+use borrow.Author.Tests.{eqb-false}
+use native.Mathlib.Omega.{arith}
 use Rattle.std.specs.Prelude.{Result, Ok, Err}
 use Rattle.meaning.specs.declared.Refusal.{Refusal}
 use Rattle.meaning.specs.declared.Refusal.TheVariants.{LongLog, LongPattern, Misspelt, Crowded, Deep, Miscalled, Miscut, Disordered, BadCount}
@@ -36,6 +38,9 @@ number_some Miscalled = refl
 number_some Miscut = refl
 number_some Disordered = refl
 number_some BadCount = refl
+
+pub some_number : (e : Refusal) → 1 ≤ number_of e
+some_number e = omega (arith, eqb-false (number_of e) 0 (number_some e))
 
 -- number and place fix the refusal
 pub refusal-unique : (d e : Refusal) → number_of d ≡ number_of e → place_of d ≡ place_of e → d ≡ e

@@ -10,7 +10,8 @@ use borrow.Author.Tests.{ltb-true, ltb-false, eqb-true, eq-eqb}
 use native.Mathlib.Nat.{zero-add, suc-add}
 use native.Mathlib.Omega.{arith}
 use Rattle.basics.proofs.Basics.{cases, and-true, or-true, or-false}
-use Rattle.stretches.specs.Stretch.{Stretch, st, In, keep, length_of}
+use Rattle.stretches.specs.declared.Stretch.{Stretch}
+use Rattle.stretches.specs.Stretch.{st, In, keep, length_of}
 use Rattle.stretches.specs.Front.{head_of, nth}
 use Rattle.stretches.proofs.Lists.{in-keep, keep-keep}
 use Rattle.stretches.proofs.Tuples.{in-cast}

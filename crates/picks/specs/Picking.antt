@@ -1,6 +1,6 @@
 -- What the picking call returns and leaves in every lent cell: docs/FORMATS.md, "The picking call". Assumes nothing.
 use Rattle.std.specs.Prelude.{ℕ, cond, List, [], length, eqb}
-use Rattle.stretches.specs.Stretch.{Stretch}
+use Rattle.stretches.specs.declared.Stretch.{Stretch}
 use Rattle.stretches.specs.Filling.{written}
 use Rattle.meaning.specs.Refusals.{pick_refusal}
 use Rattle.meaning.specs.Finding.{list_of}

@@ -1,6 +1,7 @@
 -- The picks of a list of stretches: docs/FORMATS.md, "Picks". Assumes nothing.
 use Rattle.std.specs.Prelude.{ℕ, zero, suc, ◌≡◌, refl, Bool, cond, ◌&&◌, ◌||◌, List, [], ◌∷◌, ltb, eqb}
-use Rattle.stretches.specs.Stretch.{Stretch, st, keep, length_of}
+use Rattle.stretches.specs.declared.Stretch.{Stretch}
+use Rattle.stretches.specs.Stretch.{st, keep, length_of}
 use Rattle.stretches.specs.Run.{in_run}
 
 -- x is shorter than y; of equal lengths, it starts later

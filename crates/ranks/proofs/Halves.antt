@@ -4,15 +4,12 @@ use mathlib.Core.Path.{◌≡◌, ap, ◌∙◌}
 use mathlib.Core.Bool.{cond}
 use native.Mathlib.Omega.{arith}
 use lib.Dec.{leb}
-use borrow.Author.Tests.{le-leb, lt-leb}
+use borrow.Author.Tests.{le-leb}
 use Rattle.basics.proofs.Basics.{cases}
 use Rattle.ranks.specs.Rank.{half}
 
 pub half-short : (len : ℕ) → len / 2 ≤ 1024 → half len ≡ len / 2
 half-short len h = ap (λ b. cond b (len / 2) 0) (le-leb (len / 2) 1024 h)
-
-pub half-long : (len : ℕ) → 1024 < len / 2 → half len ≡ 0
-half-long len h = ap (λ b. cond b (len / 2) 0) (lt-leb (len / 2) 1024 h)
 
 pub half_twice : (len : ℕ) → half len + half len ≤ len
 half_twice len = cases (leb (len / 2) 1024) (λ b. cond b (len / 2) 0 + cond b (len / 2) 0 ≤ len) (λ h. omega arith) (λ h. omega arith)

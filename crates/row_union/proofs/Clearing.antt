@@ -8,7 +8,7 @@ use Rattle.marks.specs.Row.{number, lies, packed, with_row, cleared}
 use Rattle.marks.proofs.Rows.{lies-true, words-of-row}
 
 -- words of no lines
-packed-none : (w : ℕ) → packed w [] ≡ replicate w 0
+pub packed-none : (w : ℕ) → packed w [] ≡ replicate w 0
 unfolding packed number
 packed-none zero = refl
 packed-none (suc w) = ap (λ (l : List ℕ). 0 ∷ l) (packed-none w)

@@ -10,7 +10,8 @@ use lib.Seq.{take_all}
 use lib.Dec.{eqb}
 use borrow.Author.Tests.{eqb-true, eq-eqb, ne_eqb}
 use native.Mathlib.Omega.{arith}
-use Rattle.stretches.specs.Stretch.{Stretch, Sound}
+use Rattle.stretches.specs.declared.Stretch.{Stretch}
+use Rattle.stretches.specs.Stretch.{Sound}
 use Rattle.stretches.specs.Filling.{written, filled}
 use Rattle.stretches.proofs.InRun.{Below}
 use Rattle.records.specs.Line.{says}

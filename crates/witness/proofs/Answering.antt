@@ -4,7 +4,8 @@ use mathlib.Core.Path.{◌≡◌, refl, sym, ap, ap₂, subst, ◌∙◌}
 use mathlib.Core.List.{List, [], ◌∷◌, ◌++◌}
 use native.Mathlib.Omega.{arith}
 use lib.ListN.{length, get_or, take, drop}
-use Rattle.stretches.specs.Stretch.{Stretch, st}
+use Rattle.stretches.specs.declared.Stretch.{Stretch}
+use Rattle.stretches.specs.Stretch.{st}
 use Rattle.stretches.specs.Front as fronts
 use Rattle.stretches.specs.Front.{None, Some, head_of, nth}
 use Rattle.stretches.specs.Filling.{flat}

@@ -7,7 +7,7 @@ use native.Mathlib.Omega.{arith}
 use lib.ListN.{length, length-take}
 use lib.Seq.{take_all}
 use Rattle.basics.proofs.Basics.{le-or-lt}
-use Rattle.stretches.specs.Stretch.{Stretch}
+use Rattle.stretches.specs.declared.Stretch.{Stretch}
 use Rattle.stretches.specs.Front.{Front, None, Some, nth}
 use Rattle.stretches.proofs.Taking.{nth_in, nth_past}
 use Rattle.records.specs.Line.{says}

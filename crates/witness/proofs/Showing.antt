@@ -8,7 +8,8 @@ use native.Mathlib.Omega.{arith}
 use lib.Dec.{leb}
 use borrow.Author.Tests.{le-leb, lt-leb}
 use lib.ListN.{length}
-use Rattle.stretches.specs.Stretch.{Stretch, In, Op}
+use Rattle.stretches.specs.declared.Stretch.{Stretch}
+use Rattle.stretches.specs.Stretch.{In, Op}
 use Rattle.stretches.specs.Front as fronts
 use Rattle.stretches.specs.Front.{None, Some, first_from, first_to}
 use Rattle.stretches.specs.Operators.{apply}

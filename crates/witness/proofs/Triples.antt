@@ -5,7 +5,7 @@ use mathlib.Core.List.{List, [], ◌∷◌, ◌++◌, append_assoc, append-nil}
 use native.Mathlib.Omega.{arith}
 use lib.ListN.{length, set, drop, length-append, length-take, length-drop}
 use lib.Seq.{take-append-le, take_all}
-use Rattle.stretches.specs.Stretch.{Stretch}
+use Rattle.stretches.specs.declared.Stretch.{Stretch}
 use Rattle.stretches.proofs.Filling.{put_one, put_two}
 use Rattle.meaning.specs.Shown.{Shown, shows}
 use Rattle.witness.specs.Witness.{flat_shown, triples_in, written_shown, filled_shown}

@@ -1,11 +1,11 @@
 -- `folding::fold_or` meets its contract: each return is one law. Assumes nothing.
-use mathlib.Core.Path.{◌≡◌, sym, ◌∙◌}
-use mathlib.Core.Bool.{true}
+use mathlib.Core.Path.{◌≡◌, ap, ◌∙◌}
+use mathlib.Core.Bool.{true, cond}
 use native.Mathlib.Omega.{arith}
+use mathlib.Core.List.{[]}
 use lib.ListN.{length}
-use Rattle.marks.specs.Row.{lies}
+use Rattle.marks.specs.Row.{lies, with_row}
 use Rattle.marks.proofs.Rows.{said-yes, said-no, lies-true}
-use Rattle.row_union.proofs.Clearing.{cleared-is}
 use Rattle.folding.proofs.FoldSteps.{or-full, or-other, or-made}
 use Rattle.folding.proofs.fold_or.Goals as goal
 use Rattle.folding.proofs.fold_or.Goals.{Else-not-inside, then-not-inside-via-then-not-inside, then-not-inside-via-else-not-inside+then-not-all_rows}
@@ -29,4 +29,4 @@ pub returns : goal.returns
 returns c = let a = c.args in
     let r = room (goal.at.returns c).Else-not-inside in
     or-made a.rows.now a.words.now a.width a.free a.v r (said-yes c.all_rows.ensures c.if-not-all_rows.false)
-    (c.clear.ensures ∙ sym (cleared-is a.words.now a.free a.width r)) c.unite_all.ensures c.put_row.ensures
+    (c.clear.ensures ∙ ap (λ b. cond b (with_row a.words.now a.free a.width []) a.words.now) r) c.unite_all.ensures c.put_row.ensures

@@ -1,6 +1,8 @@
 -- `picks::pick_in` meets its contract. Assumes nothing.
-use Rattle.plan.proofs.Planning.{short-width}
+use mathlib.Core.Path.{subst₂}
+use Rattle.plan.proofs.Planning.{marks-first}
+use Rattle.picks.proofs.Picking.{wrote_in}
 use Rattle.picks.proofs.pick_in.Goals as goal
 
-pub pick_large-requires : goal.pick_large-requires
-pick_large-requires c = (c.requires.0, c.width-width.ensures, short-width c.args.log.now c.width-width.result c.width-width.ensures c.requires.1)
+pub returns : goal.returns
+returns c = let h = c.with_marks.ensures in wrote_in c.args.k (marks-first h.3) h.4 h.6 h.5

@@ -1,32 +1,35 @@
--- `picks::shortest_left` meets its contract. The loop's invariant: a pass up to line t. Assumes nothing.
-use native.Mathlib.Omega.{arith}
-use Rattle.seek.specs.Source.{source}
+-- `picks::shortest_left` meets its contract. Assumes nothing.
+use Prim.Native.Nat.{◌+◌}
+use mathlib.Core.Path.{refl, subst, sym}
+use Rattle.seek.specs.declared.state.State.{State}
+use Rattle.seek.specs.Source.{source_of}
 use Rattle.picks.specs.inner.Passes.{held_in}
-use Rattle.picks.proofs.Passes.{pass-start, pass-out, pass-end, pass-lies, pass-take, pass-next, pass-skip}
+use Rattle.picks.proofs.Passes.{Short, short-none, Pass, pass-start, pass-end, pass-lies, pass-take, pass-skip}
+use Rattle.stretches.specs.Front.{Front, None}
 use Rattle.picks.proofs.shortest_left.Goals as goal
+use Rattle.picks.proofs.shortest_left.Goals.{in_default-next-via-in-Some-next+else-p-f, in_default-next-via-in_default-next}
 
-pub loop-t-init : goal.loop-t-init
-loop-t-init c = pass-start (source c.args.words.now c.args.items.now c.args.sound.now) c.args.rows.now (held_in c.args.cells.now c.args.n) c.requires.0 c.requires.2 c.next_pick-next.ensures
+pub loop-f-init : goal.loop-f-init
+loop-f-init c = let s = c.args.searched.now in let ps = held_in c.args.cells.now c.args.n in
+    subst (λ (x : State). Pass (source_of s) s.rows.now ps x None c.next_pick-next.result 0) (sym c.new-st.ensures) (pass-start (source_of s) s.rows.now ps c.requires.0 c.requires.2 c.next_pick-next.ensures)
 
-pub returns-then-f-ge-NONE : goal.returns-then-f-ge-NONE
-returns-then-f-ge-NONE c = pass-end (source c.args.words.now c.args.items.now c.args.sound.now) c.args.rows.now (held_in c.args.cells.now c.args.n) c.requires.0 c.requires.2 c.loop-t.invariant c.first-f.ensures.first_of c.if-f-ge-NONE.true
+pub loop-f-preserved-then-p-f : goal.loop-f-preserved-then-p-f
+loop-f-preserved-then-p-f c = let s = c.args.searched.now in
+    pass-skip (source_of s) s.rows.now (held_in c.args.cells.now c.args.n) c.requires.0 c.requires.2 c.loop-f.invariant c.in-Some.ensures.first_of refl c.in-Some-next.is c.if-p-f.true c.next_pick-next-in-Some-next.ensures
 
 pub better-best-requires : goal.better-best-requires
-better-best-requires c = let l = c.loop-t in ((pass-lies (source c.args.words.now c.args.items.now c.args.sound.now) c.args.rows.now (held_in c.args.cells.now c.args.n) c.requires.0 c.requires.2 l.invariant c.first-f.ensures.first_of c.if-f-ge-NONE.false).0, l.invariant.upright)
+better-best-requires c = let s = c.args.searched.now in
+    ((pass-lies (source_of s) s.rows.now (held_in c.args.cells.now c.args.n) c.requires.0 c.requires.2 c.loop-f.invariant c.in-Some.ensures.first_of refl).0, c.loop-f.invariant.upright)
 
-pub loop-t-preserved-then-f-next : goal.loop-t-preserved-then-f-next
-loop-t-preserved-then-f-next c = let l = c.loop-t in
-    let f = c.first-f in
-    pass-take (source c.args.words.now c.args.items.now c.args.sound.now) c.args.rows.now (held_in c.args.cells.now c.args.n) c.requires.0 c.requires.2 l.invariant f.ensures.first_of c.if-f-ge-NONE.false c.if-f-next.true c.better-best.ensures
-
-pub overflow_add-t-else-f-next : goal.overflow_add-t-else-f-next
-overflow_add-t-else-f-next c = omega (arith, (pass-next (source c.args.words.now c.args.items.now c.args.sound.now) c.args.rows.now (held_in c.args.cells.now c.args.n) c.requires.0 c.requires.2 c.loop-t.invariant c.first-f.ensures.first_of c.if-f-ge-NONE.false c.if-f-next.false).1)
-
-pub loop-t-smaller : goal.loop-t-smaller
-loop-t-smaller c = omega (arith, (pass-next (source c.args.words.now c.args.items.now c.args.sound.now) c.args.rows.now (held_in c.args.cells.now c.args.n) c.requires.0 c.requires.2 c.loop-t.invariant c.first-f.ensures.first_of c.if-f-ge-NONE.false c.if-f-next.false).0)
-
-pub loop-t-preserved : goal.loop-t-preserved
-loop-t-preserved c = pass-skip (source c.args.words.now c.args.items.now c.args.sound.now) c.args.rows.now (held_in c.args.cells.now c.args.n) c.requires.0 c.requires.2 c.loop-t.invariant c.first-f.ensures.first_of c.if-f-ge-NONE.false c.if-f-next.false c.next_pick-next-else-f-next.ensures
+pub loop-f-preserved : goal.loop-f-preserved
+loop-f-preserved c = let s = c.args.searched.now in
+    let take = λ (h : Short c.in-Some.f c.loop-f.next). pass-take (source_of s) s.rows.now (held_in c.args.cells.now c.args.n) c.requires.0 c.requires.2 c.loop-f.invariant c.in-Some.ensures.first_of refl h c.better-best.ensures in
+    let on = λ (r : Front). Pass (source_of s) s.rows.now (held_in c.args.cells.now c.args.n) c.first.new.st c.better-best.result r (c.in-Some.f.start + 1) in
+    elim c.in_default-next.branch [
+      in_default-next-via-in-Some-next+else-p-f w ↦ subst on (sym w.next-is) (subst on w.in-Some-next.is (take (subst (Short c.in-Some.f) (sym w.in-Some-next.is) w.if-p-f.false)))
+      | in_default-next-via-in_default-next w ↦ subst on (sym w.next-is) (take (short-none c.in-Some.f c.loop-f.next w.in_default-next.not-Some))
+    ]
 
 pub returns : goal.returns
-returns c = pass-out (source c.args.words.now c.args.items.now c.args.sound.now) c.args.rows.now (held_in c.args.cells.now c.args.n) c.requires.0 c.requires.2 c.loop-t.invariant (omega arith)
+returns c = let s = c.args.searched.now in
+    pass-end (source_of s) s.rows.now (held_in c.args.cells.now c.args.n) c.requires.0 c.requires.2 c.loop-f.invariant c.in_default.ensures.first_of refl

@@ -1,6 +1,7 @@
 -- What remains of a list after picks, and the shortest of it: private contracts and the laws of picks cite this. Assumes nothing.
 use Rattle.std.specs.Prelude.{Bool, true, ◌&&◌, List, [], ◌∷◌}
-use Rattle.stretches.specs.Stretch.{Stretch, keep}
+use Rattle.stretches.specs.declared.Stretch.{Stretch}
+use Rattle.stretches.specs.Stretch.{keep}
 use Rattle.stretches.specs.Front.{Front, None, Some}
 use Rattle.picks.specs.Picks.{shortest, apart}
 

@@ -1,6 +1,7 @@
 -- What is written node by node. Private contracts cite this. Assumes nothing.
 use Rattle.std.specs.Prelude.{ℕ, ◌+◌, ◌≤◌, ◌≡◌, Bool, List, ◌++◌, length}
-use Rattle.stretches.specs.Stretch.{Stretch, st, In}
+use Rattle.stretches.specs.declared.Stretch.{Stretch}
+use Rattle.stretches.specs.Stretch.{st, In}
 use Rattle.stretches.specs.Front.{nth}
 use Rattle.stretches.specs.Table.{list_at}
 use Rattle.stretches.specs.inner.Below.{found_one}
