@@ -1,6 +1,6 @@
 -- `measure`: the invariants `Outer` and `Inner` hold for every tree that the nodes encode.
 -- Assumes nothing.
-use Rattle.std.proofs.Common.{◌+◌, ◌-◌, arith}
+use Rattle.std.proofs.Common.{◌+◌, ◌-◌, ◌≡◌, max, get_or, arith, rules}
 use Rattle.stretches.specs.Table.{node_at}
 use Rattle.pattern.proofs.Sizing.{outer-begin, inner-begin, inner-bounds, inner_below, inner-sum, inner-turn, outer-turn, outer-done}
 use Rattle.pattern.proofs.tree.measure.Goals as goal
@@ -36,8 +36,9 @@ loop-seen-preserved c = let t = c.args.table.now in
     let z = c.requires in
     let l = c.loop-v in
     let i = c.loop-seen in
-    let b = inner-bounds t z l.v (l.v - 1) (i.c + (node_at l.table.rows i.c).size) c.longer-d.result (i.seen + 1) _ (inner-turn t z l.v (l.v - 1) i.c i.d i.seen _ l.table l.depth (l.invariant.1 z) (i.invariant.4 z) c.loop-seen-test.true c.longer-d.result c.longer-d.ensures) in
-    (b.0, b.1, b.2, b.3, λ e. inner-turn t e l.v (l.v - 1) i.c i.d i.seen _ l.table l.depth (l.invariant.1 e) (i.invariant.4 e) c.loop-seen-test.true c.longer-d.result c.longer-d.ensures)
+    let m : c.max-d.result ≡ max i.d (get_or l.depth i.c 0) = search rules in
+    let b = inner-bounds t z l.v (l.v - 1) (i.c + (node_at l.table.rows i.c).size) c.max-d.result (i.seen + 1) _ (inner-turn t z l.v (l.v - 1) i.c i.d i.seen _ l.table l.depth (l.invariant.1 z) (i.invariant.4 z) c.loop-seen-test.true c.max-d.result m) in
+    (b.0, b.1, b.2, b.3, λ e. inner-turn t e l.v (l.v - 1) i.c i.d i.seen _ l.table l.depth (l.invariant.1 e) (i.invariant.4 e) c.loop-seen-test.true c.max-d.result m)
 
 pub loop-v-preserved : goal.loop-v-preserved
 loop-v-preserved c = let t = c.args.table.now in
