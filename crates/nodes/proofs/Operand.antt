@@ -7,7 +7,7 @@ use Rattle.std.proofs.Common.{Option, None, Some}
 use Rattle.stretches.specs.declared.Node.{Node}
 use Rattle.stretches.specs.Table.{next_of, stop_of}
 use Rattle.nodes.specs.declared.Operands.{Operands}
-use Rattle.nodes.specs.Among.{Among, Given, Gives}
+use Rattle.nodes.specs.Among.{Among, Gives}
 
 -- c is an operand of v, and the iterator goes on behind it
 pub record Operand (rows : List Node) (v c n : ℕ) (t : Operands) : Type 0 where

@@ -1,5 +1,5 @@
 -- What an iterator over a node's operands gives, and how far it has come. Assumes nothing.
-use Rattle.std.specs.Prelude.{ℕ, ◌+◌, ◌<◌, ◌≤◌, ◌≡◌, Option, MatchOption, List}
+use Rattle.std.specs.Prelude.{ℕ, ◌<◌, ◌≤◌, ◌≡◌, Option, MatchOption, List}
 use Rattle.stretches.specs.declared.Node.{Node}
 use Rattle.stretches.specs.Table.{next_of, stop_of}
 use Rattle.nodes.specs.declared.Operands.{Operands}

@@ -19,7 +19,7 @@ use Rattle.stretches.specs.inner.Operands.{operands_from, operands_of}
 use Rattle.stretches.proofs.Table.{stop-most, from_more, from_end}
 use Rattle.seek.specs.declared.state.State.{State}
 use Rattle.seek.specs.Source.{Source, measured, given, list_over, Good}
-use Rattle.seek.specs.First.{gone, front, first, reach, Ready}
+use Rattle.seek.specs.First.{gone, front, first, Ready}
 use Rattle.seek.specs.inner.Fronts.{past_of, bad_f, kept, go_f, better_of}
 use Rattle.seek.specs.inner.Looks.{span_from, chain_from, misses, verdict, passes, others, look_by, look, Sought, Reached, Looked, Passed, Tested, Filters}
 use Rattle.seek.proofs.Best.{best_from, or-look}

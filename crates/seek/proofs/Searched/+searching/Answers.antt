@@ -12,9 +12,8 @@ use Rattle.nodes.specs.Among.{Among}
 use Rattle.nodes.proofs.Operand.{given, all_given, first_given}
 use Rattle.seek.proofs.Reaching.{reach-start, reach_here, reach-gone, reach-turn, reach-out}
 use Rattle.stretches.proofs.Table.{stop-most}
-use Rattle.seek.proofs.Shapes.{no-chain}
 use Rattle.seek.proofs.Searches.{advance-start, advance-last, advance-good, advance-back, advance-turn, advance-out}
-use mathlib.Core.Logic.{inl, inr, ⊎_elim}
+use mathlib.Core.Logic.{inl, inr}
 use Rattle.seek.proofs.Keeping.{by_row_lem, by-list, by-none, stored, served}
 use Rattle.seek.proofs.Searched.+searching.Goals as goal
 

@@ -1,5 +1,5 @@
 -- The measures of the cycle of calls: a node seeks its operands, whose numbers are higher than its own, and within a node the calls go down. And what the loops keep. Assumes nothing.
-use Prim.Native.Nat.{◌<◌, ◌-◌}
+use Prim.Native.Nat.{◌-◌}
 use Rattle.nodes.specs.Among.{Among}
 use Rattle.seek.specs.Source.{source_of}
 use Rattle.seek.proofs.Turns.{OrInv, SpanInv, ChainInv}
