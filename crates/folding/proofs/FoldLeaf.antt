@@ -15,7 +15,7 @@ use Rattle.stretches.specs.declared.Stretch.{Stretch}
 use Rattle.stretches.specs.Stretch.{Fine, marks}
 use Rattle.stretches.specs.Operators.{operator_of, apply}
 use Rattle.stretches.specs.declared.Node.{Node}
-use Rattle.stretches.specs.Table.{no_node, node_at, kind_at, size_at, first_at, second_at, third_at, Given, list_at}
+use Rattle.stretches.specs.Table.{no_node, node_at, kind_at, size_at, first_at, second_at, Given, list_at}
 use Rattle.stretches.specs.inner.Operands.{operands_of}
 use Rattle.stretches.proofs.Table.{list-node, same_lists}
 use Rattle.marks.specs.Row.{row}

@@ -1,5 +1,6 @@
 // A table folded over rows of marks: an `or` of rows alone becomes one row, and so does a `max` of a row, node by node from the last to the first.
-// rows and words are as `seek` has them.
+// rows and words are as `seek` has them. They go from function to function with the width and the free place: in a struct of the two references each method
+// would have to promise besides that it keeps both.
 #![tactic(auto)]
 
 ghost use Rattle.std.specs.Prelude.{◌≡◌, ◌<◌};
@@ -16,7 +17,7 @@ fn is_row(node: Node, width: usize, free: usize) -> bool
     node.kind == MARKS && node.second == width && width <= free && node.first <= free - width
 }
 
-// Whether all of v's operands are.
+// Whether all of v's operands are. The loops over operands are `while`: where the next one stands, the table says.
 fn all_rows(rows: &Nodes, width: usize, free: usize, v: usize) -> bool
     requires { v < 32 }
     ensures { result ≡ rows_before rows.now width free (operand_numbers rows.now v) }
