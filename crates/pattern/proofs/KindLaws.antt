@@ -30,12 +30,6 @@ abbrev pub Sought : (Kind → Bool) → ℕ → Type 0
 Sought f j = (j ≤ length kinds) × (find f kinds ≡ j + find f (drop j kinds))
 
 module _ (f : Kind → Bool) where
-  pub search-begin : Sought f 0
-  search-begin = (omega arith, go (find f kinds))
-    where
-      go : (n : ℕ) → n ≡ 0 + n
-      go n = omega arith
-
   at : (j : ℕ) → Sought f j → j < length kinds → find f kinds ≡ j + cond (f (kind_in j)) 0 (suc (find f (drop (suc j) kinds)))
   unfolding kind_in
   at j s h = s.1 ∙ ap (λ (l : List Kind). j + find f l) (drop-cons kinds j no_kind h)

@@ -129,9 +129,9 @@ module _ (tb : Table) (e : Encodes tb) where
       let n : w ≡ length (heads e.tree w) + 0 = omega (arith, long-heads w (omega (arith, o.low))) in
       ap (λ (l : List row.Node). node_at l w) (split-rows v w h t deep o f) ∙ (ap (λ (x : ℕ). node_at (heads e.tree w ++ (entry h 0 ∷ z)) x) n ∙ get_or-append-add (heads e.tree w) (entry h 0 ∷ z) 0 no_node)
 
-  pub inner-begin : (v w m : ℕ) (t : Table) (deep : List ℕ) → Outer v t deep → v ≡ suc w → m ≡ arity (node_at t.rows w).kind (node_at t.rows w).first → Inner v w v 0 0 m
+  pub inner-begin : (v w n m : ℕ) (t : Table) (deep : List ℕ) → Outer v t deep → v ≡ suc w → n ≡ v → m ≡ arity (node_at t.rows w).kind (node_at t.rows w).first → Inner v w n 0 0 m
   unfolding forest build
-  inner-begin v w m t deep o p q = record {
+  inner-begin v w n m t deep o p x q = record {
     head = a.head;
     whole = q ∙ ap (λ (n : row.Node). arity n.kind n.first) (node-here v w a.head t deep o p fr);
     split = sp;

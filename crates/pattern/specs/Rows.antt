@@ -1,16 +1,12 @@
 -- The table of a pattern: its nodes in preorder, then no nodes, 32 in all; and a tree standing in a table.
 -- Assumes nothing.
-use Rattle.std.specs.Prelude.{ℕ, ◌+◌, ◌-◌, ◌≡◌, refl, List, [], ◌∷◌, ◌++◌, map, length, replicate}
+use Rattle.std.specs.Prelude.{ℕ, ◌+◌, ◌-◌, ◌≡◌, refl, List, [], ◌∷◌, ◌++◌, map, replicate}
 use Rattle.stretches.specs.declared.Node as row
 use Rattle.stretches.specs.Table.{no_node, kind_at, size_at, first_at, second_at, third_at}
 use Rattle.pattern.specs.Kinds.{Symbol, Ev, Fr, Less, Max, kind_of, first_of, second_of, third_of}
 use Rattle.pattern.specs.Pattern.{Pattern, Patterns, Node, Nil, Cons, nodes, preorder, parts, sizes}
 
 -- ── The table ──
-
--- a column of 32 numbers that starts with these
-abbrev pub padded : List ℕ → List ℕ
-padded l = l ++ replicate (32 - length l) 0
 
 -- the symbol h over a subtree of n nodes
 abbrev pub entry : Symbol → ℕ → row.Node

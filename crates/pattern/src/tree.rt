@@ -12,13 +12,11 @@ pub(crate) fn measure(table: &mut Table) -> usize
     ensures { (e : Encodes table.old) → Measured e.tree table.new result }
 {
     let mut depth = [0usize; NODES];
-    let mut v = table.count;
-    while 0 < v {
-        let w = v - 1;
+    for w in (0..table.count).rev() {
         let node = table.rows[w];
-        let mut c = v;
+        let mut c = w + 1;
         let mut d = 0;
-        for seen in 0..arity(node.kind, node.first) {
+        for _seen in 0..arity(node.kind, node.first) {
             d = longer(d, depth[c]);
             c += table.rows[c].size;
         }
@@ -27,7 +25,6 @@ pub(crate) fn measure(table: &mut Table) -> usize
             ..node
         };
         depth[w] = d + 1;
-        v = w;
     }
     depth[0]
 }

@@ -252,6 +252,10 @@ module _ (rows : List Node) (log : List ℕ) (w : ℕ) (words sound : List ℕ) 
       subst (λ (f : Folding). Good (source f.words [] sound'') f.rows) (sym is_made)
       (made-good rows g (says log) w words wide narrow lines room (leaf-found rows) sound'' single measures)
 
+-- the first node's list is the table's
+pub marks-first : {rows : List Node} {log : List ℕ} {s : Searched} → Marks rows log s → list_over (source_of s) s.rows.now 0 ≡ table_in rows log
+marks-first {rows} {log} m = m.lists 0 ∙ sym (table-in rows log)
+
 -- in words with room, once `sound_words` gave n and `prepare` the table, the words and the row of the sound lines: the machine's table is fine, and its lists are
 -- those that the pattern's table has in the log
 module _ (rows : List Node) (log : List ℕ) (w : ℕ) (words sound : List ℕ) (h : Roomy rows log w words sound) (n : ℕ) (e : (n ≡ sound_words rows w) × (n ≤ w + w)) where
@@ -274,8 +278,8 @@ module _ (rows : List Node) (log : List ℕ) (w : ℕ) (words sound : List ℕ) 
     sound-again = sym (ap length (take_at kept (drop n sound) n kept-length) ∙ kept-length)
 
     -- every node's list, in what is searched
-    pub machine-marks : {s : Searched} → s.rows.now ≡ t → source_of s ≡ source words' [] read → Marks rows log s
-    machine-marks {s} es er =
+    pub machine-lists : {s : Searched} → s.rows.now ≡ t → source_of s ≡ source words' [] read → Marks rows log s
+    machine-lists {s = s} es er =
         let lines : length (says log) ≤ 64 * w = omega (arith, h.1) in
         let narrow : w ≤ 1024 = omega (arith, h.2) in
         let room = room-enough rows w (length words) h.3 in
@@ -288,9 +292,9 @@ module _ (rows : List Node) (log : List ℕ) (w : ℕ) (words sound : List ℕ) 
           lists = λ v. ap₂ (λ (x : Source) (y : List Node). list_over x y v) same table ∙ prepared-lists rows log w words (take n sound) h.0 narrow lines room fits v;
         }
 
--- the first node's list is the table's
-pub marks-first : {rows : List Node} {log : List ℕ} {s : Searched} → Marks rows log s → list_over (source_of s) s.rows.now 0 ≡ table_in rows log
-marks-first {rows} {log} m = m.lists 0 ∙ sym (table-in rows log)
+    -- the first node's, which is the table's
+    pub machine-list : (s : Searched) → s.rows.now ≡ t → source_of s ≡ source words' [] read → Good (source_of s) s.rows.now × (list_over (source_of s) s.rows.now 0 ≡ table_in rows log)
+    machine-list s es er = let m = machine-lists {s = s} es er in (m.good, marks-first m)
 
 -- a log that is not too long has rows of at most 960 words
 pub short-width : (log : List ℕ) (w : ℕ) → w ≡ width_of log → length log ≤ 61440 → w ≤ 960

@@ -13,23 +13,12 @@ fn show(rt: &impl Print, pattern: &[u8], log: &[u8]) -> io::Result<()> {
     rt.write_all(first(&out, n))
 }
 
-// Writes the sheet of an operator over lent lists into out, with the lines of the log.
-fn search_lists(
-    op: u32,
-    items: &[u32],
-    ends: &[u32],
-    log: &[u8],
-    cells: &mut [u32],
-    out: &mut [u8],
-) -> usize {
-    let r = lists::fill(op, 0, items, ends, cells, 0);
-    sheet::write_sheet(r, log, cells, out)
-}
-
+// Prints the sheet of an operator over lent lists.
 fn show_lists(rt: &impl Print, op: u32, items: &[u32], ends: &[u32]) -> io::Result<()> {
     let mut cells = [0u32; 64];
     let mut out = [0u8; 512];
-    let n = search_lists(op, items, ends, b"", &mut cells, &mut out);
+    let r = lists::fill(op, 0, items, ends, &mut cells, 0);
+    let n = sheet::write_sheet(r, b"", &cells, &mut out);
     rt.write_all(first(&out, n))
 }
 

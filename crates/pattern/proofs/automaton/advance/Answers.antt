@@ -5,7 +5,7 @@ use mathlib.Core.Path.{◌≡◌, sym, ap, ◌∙◌}
 use native.Mathlib.Omega.{arith}
 use Rattle.digits.proofs.ChartLaws.{digit-true}
 use Rattle.pattern.specs.Automaton.{step}
-use Rattle.pattern.proofs.Steps.{letters-bounded, field-bounded, field-piece, field-other, field-digit, at-end, digits-piece, more-other, more-zero, more-digit, more-past, digits-bounded}
+use Rattle.pattern.proofs.Steps.{field-bounded, field-piece, field-other, field-digit, at-end, digits-piece, more-other, more-zero, more-digit, more-past, digits-bounded}
 use Rattle.pattern.proofs.Numbers.{first-value, more-value}
 use Rattle.pattern.proofs.automaton.advance.Goals as goal
 use Rattle.pattern.proofs.automaton.advance.Goals.{After-sum, After-sum-in-Digits, then-not-is_ascii_digit-2-via-then-not-is_ascii_digit-2, then-not-is_ascii_digit-2-via-else-not-is_ascii_digit-2+then-value-eq0, then-not-is_ascii_digit-2-via-else-not-is_ascii_digit-2+else-value-eq0+then-piece-gt5}
@@ -22,9 +22,6 @@ more-digits c =
     let d = digit-true c.args.b (sym c.is_ascii_digit-in-Digits.ensures.value ∙ c.if-not-is_ascii_digit-2.false) in
     c.sum-in-Digits.ensures ∙ more-value c.requires.0 c.args.b d.0 d.1 c.args.piece.now _ r.2 (digits-piece c.args.s c.args.b e c.args.piece.now c.requires.2) c.if-piece-gt5.false
 
-pub letter-requires : goal.letter-requires
-letter-requires c = let d = letters-bounded c.args.s c.args.b c.in-Letters.is 1000000 c.requires.1 in (d.3, (d.0, (d.1, d.2)))
-
 pub returns-in-Letters : goal.returns-in-Letters
 unfolding step
 returns-in-Letters c = c.letter.ensures ∙ sym (ap (λ s. step s c.args.b) c.in-Letters.is)
@@ -37,9 +34,6 @@ number-requires c = (omega (arith, field-value (goal.at.number-requires c).After
 
 pub returns-else-not-is_ascii_digit : goal.returns-else-not-is_ascii_digit
 returns-else-not-is_ascii_digit c = c.number.ensures ∙ field-digit c.args.s c.args.b c.in-Field.is (sym c.is_ascii_digit.ensures.value ∙ c.if-not-is_ascii_digit.false) (field-value (goal.at.returns-else-not-is_ascii_digit c).After-sum)
-
-pub number_end-requires : goal.number_end-requires
-number_end-requires c = let d = digits-bounded c.args.s c.args.b c.in-Digits.is 1000000 c.requires.1 in (d.0, (d.1, (omega arith, d.4)))
 
 pub returns-then-b-eq44 : goal.returns-then-b-eq44
 returns-then-b-eq44 c = c.number_end.ensures ∙ at-end c.args.s c.args.b c.in-Digits.is c.if-b-eq44.true

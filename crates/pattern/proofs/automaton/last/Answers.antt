@@ -2,18 +2,10 @@
 -- Assumes nothing.
 use borrow.Author.Tests.{lt-leb, le-leb, lt-ltb, le-ltb}
 use mathlib.Core.Path.{◌∙◌, sym, ap}
-use native.Mathlib.Omega.{arith}
-use Rattle.stretches.specs.declared.Node as row
 use Rattle.pattern.specs.inner.Scanner.{final, end_of}
-use Rattle.pattern.proofs.Steps.{digits-bounded, end-other}
+use Rattle.pattern.proofs.Steps.{end-other}
 use Rattle.pattern.proofs.automaton.last.Goals as goal
 use Rattle.pattern.proofs.automaton.last.Goals.{then-value-low-via-then-value-low, then-value-low-via-else-value-low+then-slot-field_count}
-
-pub low-requires : goal.low-requires
-low-requires c = omega (arith, digits-bounded c.args.s 0 c.in-Digits.is 1000000 c.requires)
-
-pub overflow_add-slot : goal.overflow_add-slot
-overflow_add-slot c = omega (arith, digits-bounded c.args.s 0 c.in-Digits.is 1000000 c.requires)
 
 pub returns-in_default : goal.returns-in_default
 returns-in_default c = end-other c.args.s c.in_default.not-Digits
@@ -25,10 +17,6 @@ returns-then-value-low c =
       | then-value-low-via-then-value-low w ↦ sym (ap end_of c.in-Digits.is ∙ simp (← c.low.ensures, lt-leb _ _ w.if-value-low.true))
       | then-value-low-via-else-value-low+then-slot-field_count w ↦ sym (ap end_of c.in-Digits.is ∙ simp (← c.low.ensures, le-leb _ _ w.if-value-low.false, ← w.field_count.ensures, lt-ltb _ _ w.if-slot-field_count.true))
     ]
-
-pub whole-requires : goal.whole-requires
-whole-requires c = let d = digits-bounded c.args.s 0 c.in-Digits.is 1000000 c.requires in
-    (d.1, omega (arith, ap (λ (h : row.Node). h.first) c.with_value.ensures, d.3))
 
 pub returns : goal.returns
 unfolding end_of
