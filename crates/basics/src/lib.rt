@@ -1,41 +1,13 @@
 // Small functions, definitions and laws that several crates use and the kit's libraries lack.
 #![tactic(auto)]
 
-ghost use Rattle.std.specs.Prelude.{◌≡◌, ◌<◌, min, max, take};
+ghost use Rattle.std.specs.Prelude.{◌≡◌, ◌<◌, take};
 
-// A number as a place or a position.
+// A number as a place or a position. Rust has no `From<u32>` for `usize`, and sums and products of such numbers are proved to fit by the bound.
 pub fn wide(x: u32) -> usize
     ensures { (result ≡ x) × (result < 4294967296) }
 {
     x as usize
-}
-
-// The lesser of two numbers.
-pub fn least(a: u32, b: u32) -> u32
-    ensures { result ≡ min a b }
-{
-    if b < a { b } else { a }
-}
-
-// The greater of two numbers.
-pub fn most(a: u32, b: u32) -> u32
-    ensures { result ≡ max a b }
-{
-    if a < b { b } else { a }
-}
-
-// The lesser of two lengths.
-pub fn shorter(a: usize, b: usize) -> usize
-    ensures { result ≡ min a b }
-{
-    if a <= b { a } else { b }
-}
-
-// The greater of two lengths.
-pub fn longer(a: usize, b: usize) -> usize
-    ensures { result ≡ max a b }
-{
-    if b <= a { a } else { b }
 }
 
 // The first n items, where they stand; all where they are fewer.

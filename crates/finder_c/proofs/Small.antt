@@ -29,9 +29,8 @@ use Rattle.picks.proofs.Picking.{picked-few}
 use Rattle.witness.specs.Witness.{triples_in, shown_in, witnessing}
 use Rattle.witness.proofs.Laws.{shown-most}
 use Rattle.meaning.specs.Refusals.{Signal, refused, miscalled, miscalled_taking, pick_refusal, lowest, lists_refusal, taking_refusal}
-use Rattle.taking.specs.declared.Taken.{Taken}
 use Rattle.lists.specs.Filling.{list_answers, wrote, not_filled, fill_result}
-use Rattle.taking.specs.Taking.{taken_by, taken_of, given, not_taken, take_result}
+use Rattle.taking.specs.Taking.{TakeReply, taken_by, taken_of, given, not_taken, take_result}
 use Rattle.lent.proofs.Ordering.{fine-lists}
 use Rattle.lent.proofs.Accepting.{accepted}
 
@@ -132,7 +131,7 @@ given-number None = refl
 given-number (Some x) = refl
 
 -- of a taking call
-pub taking-small : (op : ℕ) (items ends counts : List ℕ) (p : ℕ) (r : Taken) → r ≡ take_result op items ends counts p → (r.number ≤ 8) × (r.start ≤ 65535) × (r.end ≤ 65535)
+pub taking-small : (op : ℕ) (items ends counts : List ℕ) (p : ℕ) (r : TakeReply) → r ≡ take_result op items ends counts p → (r.number ≤ 8) × (r.start ≤ 65535) × (r.end ≤ 65535)
 unfolding take_result taking_refusal
 taking-small op items ends counts p r e = go (eqb (lowest (miscalled_taking op ends counts) items ends) 0) refl e
   where
@@ -141,12 +140,12 @@ taking-small op items ends counts p r e = go (eqb (lowest (miscalled_taking op e
     go true i x =
         let a = accepted (miscalled_taking op ends counts) items ends (eqb-true (lowest (miscalled_taking op ends counts) items ends) 0 i) in
         let h = taken-by (operator_of length_of op 0) (lists_of items ends) (fine-lists (lists_of items ends) a.order) p (taken_of op items ends p).answer refl in (
-          omega (arith, ap (λ (y : Taken). y.number) x, given-number (taken_of op items ends p).answer),
-          omega (arith, ap (λ (y : Taken). y.start) x, h.0),
-          omega (arith, ap (λ (y : Taken). y.end) x, h.1),
+          omega (arith, ap (λ (y : TakeReply). y.number) x, given-number (taken_of op items ends p).answer),
+          omega (arith, ap (λ (y : TakeReply). y.start) x, h.0),
+          omega (arith, ap (λ (y : TakeReply). y.end) x, h.1),
         )
     go false i x = (
-      omega (arith, ap (λ (y : Taken). y.number) x, lowest-small (miscalled_taking op ends counts) items ends),
-      omega (arith, ap (λ (y : Taken). y.start) x),
-      omega (arith, ap (λ (y : Taken). y.end) x),
+      omega (arith, ap (λ (y : TakeReply). y.number) x, lowest-small (miscalled_taking op ends counts) items ends),
+      omega (arith, ap (λ (y : TakeReply). y.start) x),
+      omega (arith, ap (λ (y : TakeReply). y.end) x),
     )

@@ -1,11 +1,10 @@
 -- A call's result in one number of 64 bits, and the parts of it, as include/finder.h has them. Assumes nothing.
 use Rattle.std.specs.Prelude.{ℕ, ◌+◌, ◌*◌, ◌/◌, ◌%◌, ◌^◌, ◌<◌, ◌≡◌, Bool, cond, List, length, take, drop}
 use Rattle.lines.specs.Lines.{stretch_lines, stretch_start}
-use Rattle.meaning.specs.Replies.{FillReply}
-use Rattle.meaning.specs.Replies.{Reply}
+use Rattle.meaning.specs.Replies.{FillReply, Reply}
 use Rattle.meaning.specs.Refusals.{long_log}
 use Rattle.marking.specs.Rows.{counted}
-use Rattle.taking.specs.declared.Taken.{Taken}
+use Rattle.taking.specs.Taking.{TakeReply}
 
 abbrev pub bit : Bool → ℕ
 bit b = cond b 1 0
@@ -19,7 +18,7 @@ abbrev pub packed_reply : Reply → ℕ
 packed_reply r = r.number + 65536 * r.place + 4294967296 * r.count
 
 -- bits 0 to 7 the refusal's number (0: accepted), bit 8 set where there is an answer, bits 16 to 31 its start, bits 32 to 47 its end
-abbrev pub packed_taken : Taken → ℕ
+abbrev pub packed_taken : TakeReply → ℕ
 packed_taken r = r.number + 256 * bit r.found + 65536 * r.start + 4294967296 * r.end
 
 -- of a log: bits 0 to 7 the refusal's number (1 for a long log, and then nothing else), bits 16 to 31 the damaged lines, bits 32 to 63 the lines
@@ -73,7 +72,7 @@ pub record ReadsReply (w : ℕ) (r : Reply) : Type 0 where
   pub place : place_in w ≡ r.place
   pub count : written_in w ≡ r.count
 
-pub record ReadsTaken (w : ℕ) (r : Taken) : Type 0 where
+pub record ReadsTaken (w : ℕ) (r : TakeReply) : Type 0 where
   pub fits : w < 2 ^ 64
   pub number : refusal_in w ≡ r.number
   pub found : flag_in w ≡ bit r.found

@@ -4,15 +4,16 @@
 ghost use Rattle.std.specs.Prelude.{◌≡◌, ◌≤◌};
 ghost use Rattle.stretches.specs.Filling.{filled};
 ghost use Rattle.meaning.specs.Finding.{list_of, filling};
+ghost use Rattle.meaning.specs.Replies.{fill_reply, reply};
 ghost use Rattle.picks.specs.Picking.{picks_in, picking};
 ghost use Rattle.witness.specs.Witness.{shown_in, filled_shown, witnessing};
 ghost use Rattle.lists.specs.Filling.{fill_result, fill_cells};
-ghost use Rattle.taking.specs.Taking.{take_result, take_cells};
+ghost use Rattle.taking.specs.Taking.{take_reply, take_result, take_cells};
 ghost use Rattle.finder_c.specs.Packing.{packed_fill, packed_reply, packed_taken, packed_count, packed_lines, bit};
 
 use lines::LOG_MAX;
-use meaning::{Filled, Reply};
-use taking::Taken;
+use meaning::{Filled, Refusal};
+use stretches::Stretch;
 
 // The bit of a flag.
 fn flag(b: bool) -> u64
@@ -22,31 +23,37 @@ fn flag(b: bool) -> u64
 }
 
 // The result of a filling call in one number.
-fn packed(r: Filled) -> u64
-    requires { (r.number ≤ 8) × (r.place ≤ 1024) × (r.count ≤ 65536) }
-    ensures { result ≡ packed_fill r }
+fn packed(r: Result<Filled, Refusal>) -> u64
+    requires { ((fill_reply r).number ≤ 8) × ((fill_reply r).place ≤ 1024) × ((fill_reply r).count ≤ 65536) }
+    ensures { result ≡ packed_fill (fill_reply r) }
 {
-    let more = flag(r.more);
-    let low = r.number as u64 + 256 * more;
-    low + 65536 * (r.place as u64) + 4294967296 * (r.count as u64)
+    match r {
+        Ok(f) => 256 * flag(f.more) + 4294967296 * (f.count as u64),
+        Err(e) => e.number() as u64 + 65536 * (e.place() as u64),
+    }
 }
 
 // The result of a picking or a witness call in one number.
-fn packed_reply(r: Reply) -> u64
-    requires { (r.number ≤ 10) × (r.place ≤ 1024) × (r.count ≤ 65536) }
-    ensures { result ≡ packed_reply r }
+fn packed_reply(r: Result<usize, Refusal>) -> u64
+    requires { ((reply r).number ≤ 10) × ((reply r).place ≤ 1024) × ((reply r).count ≤ 65536) }
+    ensures { result ≡ packed_reply (reply r) }
 {
-    r.number as u64 + 65536 * (r.place as u64) + 4294967296 * (r.count as u64)
+    match r {
+        Ok(count) => 4294967296 * (count as u64),
+        Err(e) => e.number() as u64 + 65536 * (e.place() as u64),
+    }
 }
 
 // The result of a taking call in one number.
-fn packed_taken(r: Taken) -> u64
-    requires { (r.number ≤ 8) × (r.start ≤ 65535) × (r.end ≤ 65535) }
-    ensures { result ≡ packed_taken r }
+fn packed_taken(r: Result<Option<Stretch>, Refusal>) -> u64
+    requires { ((take_reply r).number ≤ 8) × ((take_reply r).start ≤ 65535) × ((take_reply r).end ≤ 65535) }
+    ensures { result ≡ packed_taken (take_reply r) }
 {
-    let found = flag(r.found);
-    let low = r.number as u64 + 256 * found;
-    low + 65536 * (r.start as u64) + 4294967296 * (r.end as u64)
+    match r {
+        Ok(Some(x)) => 256 + 65536 * (x.start as u64) + 4294967296 * (x.end as u64),
+        Ok(None) => 0,
+        Err(e) => e.number() as u64,
+    }
 }
 
 // The stretches of a pattern in a log, from number `from` on, into the cells.

@@ -4,6 +4,9 @@
 ghost use Rattle.std.specs.Prelude.{◌≡◌, ◌<◌, ◌≤◌};
 ghost use Rattle.stretches.specs.Table.{leaf_kind, chain_kind, proof_kind, next_of, stop_of};
 
+mod among;
+
+pub use among::operands_of;
 pub use stretches::Node;
 
 // The kinds of nodes: operators, by their numbers;
@@ -95,4 +98,13 @@ pub fn stop_of(rows: &Nodes, v: usize) -> usize
     }
     let n = rows[v].size;
     if n <= NODES - v { v + n } else { NODES }
+}
+
+// The operands of a node, in turn: those from `at` on, up to `stop`.
+#[derive(Drop)]
+pub struct Operands<'a> {
+    rows: &'a Nodes,
+    at: usize,
+    stop: usize,
+    ghost in_table: { stop ≤ 32 },
 }

@@ -7,15 +7,17 @@ use super::automaton::{advance, last};
 use super::{Refusal, State, Step, Table};
 use nodes::{NO_NODE, NODES, Node};
 
-// A node more; past NODES of them they are counted only.
-fn put(table: &mut Table, node: Node)
-    requires { table.old.count ≤ 1024 }
-    ensures { table.new ≡ put table.old node }
-{
-    if table.count < NODES {
-        table.rows[table.count] = node;
+impl Table {
+    // A node more; past NODES of them they are counted only.
+    fn put(&mut self, node: Node)
+        requires { self.old.count ≤ 1024 }
+        ensures { self.new ≡ put self.old node }
+    {
+        if self.count < NODES {
+            self.rows[self.count] = node;
+        }
+        self.count += 1;
     }
-    table.count += 1;
 }
 
 // The symbols of a text as nodes, the sizes of their subtrees not known yet; or the place where it stops.
@@ -40,7 +42,7 @@ pub(crate) fn scan(text: &[u8]) -> Result<Table, Refusal>
         match advance(&places, &text[from..end], s, *b).ok_or(Refusal::Misspelt(i))? {
             Step::Within(t) => s = t,
             Step::Closed(node, t) => {
-                put(&mut table, node);
+                table.put(node);
                 s = t;
             }
         }
@@ -49,6 +51,6 @@ pub(crate) fn scan(text: &[u8]) -> Result<Table, Refusal>
         }
     }
     let node = last(s).ok_or(Refusal::Misspelt(text.len()))?;
-    put(&mut table, node);
+    table.put(node);
     Ok(table)
 }

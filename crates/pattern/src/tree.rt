@@ -3,7 +3,6 @@ ghost use Rattle.pattern.specs.inner.Nodes.{Encodes, Measured};
 
 use super::Table;
 use super::alphabet::arity;
-use basics::longer;
 use nodes::{NODES, Node};
 
 // Sets the sizes of the subtrees, from the last node to the first: a node's operands have theirs by then. The depth of the whole.
@@ -17,7 +16,7 @@ pub(crate) fn measure(table: &mut Table) -> usize
         let mut c = w + 1;
         let mut d = 0;
         for _seen in 0..arity(node.kind, node.first) {
-            d = longer(d, depth[c]);
+            d = d.max(depth[c]);
             c += table.rows[c].size;
         }
         table.rows[w] = Node {

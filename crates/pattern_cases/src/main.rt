@@ -5,7 +5,7 @@
 #![tactic(auto)]
 
 use input::read_whole;
-use nodes::{NODES, NO_NODE};
+use nodes::{NO_NODE, NODES};
 use pattern::Refusal;
 use std::io;
 

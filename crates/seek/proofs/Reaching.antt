@@ -18,7 +18,7 @@ use Rattle.stretches.proofs.Fronts.{FirstIs, first_good, front-good}
 use Rattle.stretches.proofs.Held.{to-from, to_none}
 use Rattle.seek.specs.declared.state.State.{State}
 use Rattle.seek.specs.Source.{Source, list_over, Good}
-use Rattle.seek.specs.First.{gone, front, passed_at, first, reach, Ended, Ready}
+use Rattle.seek.specs.First.{gone, front, passed_at, Ended, Ready}
 use Rattle.seek.specs.inner.Fronts.{pass_at, resume_at}
 use Rattle.seek.specs.inner.Looks.{Sought, Reached}
 use Rattle.seek.proofs.Nodes.{fine}

@@ -10,6 +10,8 @@ use lib.Dec.{leb, ltb, eqb}
 use borrow.Author.Tests.{lt-ltb, le-ltb, eq-eqb, ne_eqb}
 use Rattle.stretches.specs.declared.Node.{Node}
 use Rattle.stretches.specs.declared.Stretch.{Stretch}
+use Rattle.nodes.specs.declared.Operands.{Operands}
+use Rattle.nodes.proofs.Operand.{Operand}
 use Rattle.stretches.specs.Stretch.{st}
 use Rattle.stretches.specs.Front.{first_from, first_to}
 use Rattle.stretches.specs.Table.{kind_at, first_at, chain_kind, holder_kind, next_of, stop_of}
@@ -17,7 +19,7 @@ use Rattle.stretches.specs.inner.Operands.{operands_from, operands_of}
 use Rattle.stretches.proofs.Table.{stop-most, from_more, from_end}
 use Rattle.seek.specs.declared.state.State.{State}
 use Rattle.seek.specs.Source.{Source, measured, given, list_over, Good}
-use Rattle.seek.specs.First.{gone, front, first, reach, Ready}
+use Rattle.seek.specs.First.{gone, front, first, Ready}
 use Rattle.seek.specs.inner.Fronts.{past_of, bad_f, kept, go_f, better_of}
 use Rattle.seek.specs.inner.Looks.{span_from, chain_from, misses, verdict, passes, others, look_by, look, Sought, Reached, Looked, Passed, Tested, Filters}
 use Rattle.seek.proofs.Best.{best_from, or-look}
@@ -42,27 +44,27 @@ left_end src rows v c le = from_end (given src rows) rows (stop_of rows v) c le
 pub record OrInv (src : Source) (rows : List Node) (s₀ : State) (v t : ℕ) (s : State) (c : ℕ) (best : Stretch) : Type 0 where
   pub at : kind_at rows v ≡ 1 → Good src rows → Ready src rows s₀ → Ready src rows s × (best_from t best (left src rows v c) ≡ front (first src rows v t))
 
-pub or-start : {src : Source} {rows : List Node} {s : State} {v t : ℕ} {r : Stretch} → v < 32 → r ≡ gone → OrInv src rows s v t s (v + 1) r
+pub or-start : {src : Source} {rows : List Node} {s : State} {v t c : ℕ} → v < 32 → c ≡ v + 1 → OrInv src rows s v t s c gone
 or-start {src} {rows} {s} {v} {t} lv e = record {
   at = λ k good rdy.
       let f = fine-operands src rows good v lv in (
         rdy,
-        ap (λ (x : Stretch). best_from t x (left src rows v (v + 1))) e ∙ or-look (operands_of (given src rows) rows v) f.rising f.below t
+        ap (λ (n : ℕ). best_from t gone (left src rows v n)) e ∙ or-look (operands_of (given src rows) rows v) f.rising f.below t
             ∙ ap (λ (l : List Stretch). front (first_from l t)) (sym (or-list src rows v lv k)),
       );
 }
 
-pub or_turn : {src : Source} {rows : List Node} {s₀ : State} {v t : ℕ} {s s' : State} {c c' : ℕ} {best best' f : Stretch} → v < 32 → OrInv src rows s₀ v t s c best → c < stop_of rows v
-    → Sought src rows s c t f s' → best' ≡ better_of best f → c' ≡ next_of rows c → OrInv src rows s₀ v t s' c' best'
+pub or_turn : {src : Source} {rows : List Node} {s₀ : State} {v t : ℕ} {s s' : State} {n c : ℕ} {it : Operands} {best best' f : Stretch} → v < 32 → OrInv src rows s₀ v t s n best → Operand rows v c n it
+    → Sought src rows s c t f s' → best' ≡ better_of best f → OrInv src rows s₀ v t s' it.at best'
 unfolding best_from
-or_turn {src} {rows} {s₀} {v} {t} {s} {s'} {c} {c'} {best} {best'} {f} lv inv lt w eb ec = record {
+or_turn {src} {rows} {s₀} {v} {t} {s} {s'} {n} {c} {it} {best} {best'} {f} lv inv o w eb = record {
   at = λ k good rdy.
       let i = inv.at k good rdy in
       let g = w.found good i.0 in
       let e : best' ≡ better_of best (front (first_from (list_over src rows c) t)) = eb ∙ ap (better_of best) g.is in (
         g.ready,
-        ap (λ (x : Stretch). best_from t x (left src rows v c')) e ∙ ap (λ (n : ℕ). best_from t (better_of best (front (first_from (list_over src rows c) t))) (left src rows v n)) ec
-            ∙ (sym (ap (best_from t best) (left-more src rows v c lv lt)) ∙ i.1),
+        ap (λ (x : Stretch). best_from t x (left src rows v it.at)) e ∙ ap (λ (k : ℕ). best_from t (better_of best (front (first_from (list_over src rows c) t))) (left src rows v k)) o.next
+            ∙ (sym (ap (best_from t best) (left-more src rows v c lv o.inside)) ∙ (ap (λ (k : ℕ). best_from t best (left src rows v k)) o.here ∙ i.1)),
       );
 }
 
@@ -95,15 +97,15 @@ look_none {src} {rows} {s} {v} {t} le e = record {
 pub record SpanInv (src : Source) (rows : List Node) (s₀ : State) (v t : ℕ) (s : State) (m e c : ℕ) : Type 0 where
   pub at : kind_at rows v ≡ 2 → Good src rows → Ready src rows s₀ → Ready src rows s × (span_from t (st m e) (left src rows v c) ≡ look src rows v t)
 
-pub span-start : {src : Source} {rows : List Node} {s : State} {v t : ℕ} → v < 32 → v + 1 < stop_of rows v → SpanInv src rows s v t s 65536 0 (v + 1)
+pub span-start : {src : Source} {rows : List Node} {s : State} {v t c : ℕ} → v < 32 → v + 1 < stop_of rows v → c ≡ v + 1 → SpanInv src rows s v t s 65536 0 c
 unfolding look
-span-start {src} {rows} {s} {v} {t} lv some = record {
+span-start {src} {rows} {s} {v} {t} lv some e = record {
   at = λ k good rdy.
       let z = left-more src rows v (v + 1) lv some in
-      (rdy, ap (span_from t (st 65536 0)) z ∙ sym (look-kind src rows good v lv 2 t k ∙ ap (λ (ls : List (List Stretch)). look_by src 2 (first_at rows v) ls t) z));
+      (rdy, ap (λ (n : ℕ). span_from t (st 65536 0) (left src rows v n)) e ∙ ap (span_from t (st 65536 0)) z ∙ sym (look-kind src rows good v lv 2 t k ∙ ap (λ (ls : List (List Stretch)). look_by src 2 (first_at rows v) ls t) z));
 }
 
-module _ {src : Source} {rows : List Node} {s₀ : State} {v t : ℕ} {s s' : State} {m e c : ℕ} {f : Stretch} (lv : v < 32) (inv : SpanInv src rows s₀ v t s m e c) (lt : c < stop_of rows v) (w : Sought src rows s c t f s') where
+module _ {src : Source} {rows : List Node} {s₀ : State} {v t : ℕ} {s s' : State} {m e n c : ℕ} {it : Operands} {f : Stretch} (lv : v < 32) (inv : SpanInv src rows s₀ v t s m e n) (o : Operand rows v c n it) (w : Sought src rows s c t f s') where
   -- the span goes on with the front at c
   span-step : kind_at rows v ≡ 2 → Good src rows → Ready src rows s₀
       → Ready src rows s' × (go_f f (λ x. span_from t (st (min m x.start) (max e x.end)) (left src rows v (next_of rows c))) ≡ look src rows v t)
@@ -113,16 +115,16 @@ module _ {src : Source} {rows : List Node} {s₀ : State} {v t : ℕ} {s s' : St
       let g = w.found good i.0 in (
         g.ready,
         ap (λ (y : Stretch). go_f y (λ x. span_from t (st (min m x.start) (max e x.end)) (left src rows v (next_of rows c)))) g.is
-            ∙ (sym (ap (span_from t (st m e)) (left-more src rows v c lv lt)) ∙ i.1),
+            ∙ (sym (ap (span_from t (st m e)) (left-more src rows v c lv o.inside)) ∙ (ap (λ (k : ℕ). span_from t (st m e) (left src rows v k)) o.here ∙ i.1)),
       )
 
-  pub span-turn : {m' e' c' : ℕ} → f.start < 65536 → m' ≡ min m f.start → e' ≡ max e f.end → c' ≡ next_of rows c → SpanInv src rows s₀ v t s' m' e' c'
-  span-turn {m'} {e'} {c'} one em ee ec = record {
+  pub span-turn : {m' e' : ℕ} → f.start < 65536 → m' ≡ min m f.start → e' ≡ max e f.end → SpanInv src rows s₀ v t s' m' e' it.at
+  span-turn {m'} {e'} one em ee = record {
     at = λ k good rdy.
         let i = span-step k good rdy in (
           i.0,
-          ap (λ (n : ℕ). span_from t (st n e') (left src rows v c')) em ∙ ap (λ (n : ℕ). span_from t (st (min m f.start) n) (left src rows v c')) ee
-              ∙ ap (λ (n : ℕ). span_from t (st (min m f.start) (max e f.end)) (left src rows v n)) ec
+          ap (λ (n : ℕ). span_from t (st n e') (left src rows v it.at)) em ∙ ap (λ (n : ℕ). span_from t (st (min m f.start) n) (left src rows v it.at)) ee
+              ∙ ap (λ (n : ℕ). span_from t (st (min m f.start) (max e f.end)) (left src rows v n)) o.next
               ∙ (sym (go-some f (λ x. span_from t (st (min m x.start) (max e x.end)) (left src rows v (next_of rows c))) one) ∙ i.1),
         );
   }
@@ -182,8 +184,8 @@ pub record ChainInv (src : Source) (rows : List Node) (s₁ : State) (v t m e₁
 pub chain-start : {src : Source} {rows : List Node} {s : State} {v t m e c : ℕ} → c ≡ next_of rows (v + 1) → ChainInv src rows s v t m e s e c
 chain-start {src} {rows} {s} {v} {t} {m} {e} {c} ec = record { at = λ good rdy i. (rdy, ap (λ (n : ℕ). chain_from (tight_at rows v) m e (left src rows v n)) ec ∙ i) }
 
-module _ {src : Source} {rows : List Node} {s₁ : State} {v t m e₁ : ℕ} {s s' : State} {e c to : ℕ} {f : Stretch}
-    (lv : v < 32) (inv : ChainInv src rows s₁ v t m e₁ s e c) (lt : c < stop_of rows v) (et : to ≡ past_of e) (w : Sought src rows s c to f s') where
+module _ {src : Source} {rows : List Node} {s₁ : State} {v t m e₁ : ℕ} {s s' : State} {e n c to : ℕ} {it : Operands} {f : Stretch}
+    (lv : v < 32) (inv : ChainInv src rows s₁ v t m e₁ s e n) (o : Operand rows v c n it) (et : to ≡ past_of e) (w : Sought src rows s c to f s') where
   -- the chain goes on with the front at c
   chain-step : Good src rows → Ready src rows s₁ → chain_from (tight_at rows v) m e₁ (left src rows v (next_of rows (v + 1))) ≡ look src rows v t
       → Ready src rows s' × (go_f f (λ x. cond (tight_at rows v && not (eqb x.start to)) (bad_f m) (chain_from (tight_at rows v) m x.end (left src rows v (next_of rows c)))) ≡ look src rows v t)
@@ -194,7 +196,7 @@ module _ {src : Source} {rows : List Node} {s₁ : State} {v t m e₁ : ℕ} {s 
         g.ready,
         ap (λ (y : Stretch). go_f y (λ x. cond (tight_at rows v && not (eqb x.start to)) (bad_f m) (chain_from (tight_at rows v) m x.end (left src rows v (next_of rows c))))) g.is
             ∙ ap (λ (n : ℕ). go_f (front (first_from (list_over src rows c) n)) (λ x. cond (tight_at rows v && not (eqb x.start n)) (bad_f m) (chain_from (tight_at rows v) m x.end (left src rows v (next_of rows c))))) et
-            ∙ (sym (ap (chain_from (tight_at rows v) m e) (left-more src rows v c lv lt)) ∙ i.1),
+            ∙ (sym (ap (chain_from (tight_at rows v) m e) (left-more src rows v c lv o.inside)) ∙ (ap (λ (k : ℕ). chain_from (tight_at rows v) m e (left src rows v k)) o.here ∙ i.1)),
       )
 
   module _ (one : f.start < 65536) where
@@ -207,8 +209,8 @@ module _ {src : Source} {rows : List Node} {s₁ : State} {v t m e₁ : ℕ} {s 
               ∙ (sym (go-some f (λ x. cond (tight_at rows v && not (eqb x.start to)) (bad_f m) (chain_from (tight_at rows v) m x.end (left src rows v (next_of rows c)))) one) ∙ i.1),
         )
 
-    pub chain-turn : {c' : ℕ} → (tight_at rows v && not (eqb f.start to)) ≡ false → c' ≡ next_of rows c → ChainInv src rows s₁ v t m e₁ s' f.end c'
-    chain-turn eb ec = record { at = λ good rdy i₁. let i = chain-over false eb good rdy i₁ in (i.0, ap (λ (n : ℕ). chain_from (tight_at rows v) m f.end (left src rows v n)) ec ∙ i.1) }
+    pub chain-turn : (tight_at rows v && not (eqb f.start to)) ≡ false → ChainInv src rows s₁ v t m e₁ s' f.end it.at
+    chain-turn eb = record { at = λ good rdy i₁. let i = chain-over false eb good rdy i₁ in (i.0, ap (λ (n : ℕ). chain_from (tight_at rows v) m f.end (left src rows v n)) o.next ∙ i.1) }
 
 -- the ways out of the chain, from the state at entry
 module _ {src : Source} {rows : List Node} {s₀ s₁ : State} {v t : ℕ} {a : Stretch} (lv : v < 32) (some : v + 1 < stop_of rows v) (w₀ : Sought src rows s₀ (v + 1) t a s₁) (one₀ : a.start < 65536)
@@ -222,14 +224,14 @@ module _ {src : Source} {rows : List Node} {s₀ s₁ : State} {v t : ℕ} {a : 
         record { is = er ∙ (sym (ap (chain_from (tight_at rows v) a.start e) (left_end src rows v c le)) ∙ i.1); ready = i.0 };
   }
 
-  module _ {s' : State} {to : ℕ} {f : Stretch} (lt : c < stop_of rows v) (et : to ≡ past_of e) (w : Sought src rows s c to f s') where
+  module _ {s' : State} {u to : ℕ} {it : Operands} {f : Stretch} (o : Operand rows v u c it) (et : to ≡ past_of e) (w : Sought src rows s u to f s') where
     pub chain-stop : {r : Stretch} → 65536 ≤ f.start → r ≡ gone → Looked src rows s₀ v t r s'
     chain-stop n er = record {
       seen = λ good rdy.
           let i₀ = chain-some lv some w₀ one₀ k good rdy in
-          let i = chain-step lv inv lt et w good i₀.0 i₀.1 in
+          let i = chain-step lv inv o et w good i₀.0 i₀.1 in
           record {
-            is = er ∙ (sym (go-none f (λ x. cond (tight_at rows v && not (eqb x.start to)) (bad_f a.start) (chain_from (tight_at rows v) a.start x.end (left src rows v (next_of rows c)))) n) ∙ i.1);
+            is = er ∙ (sym (go-none f (λ x. cond (tight_at rows v && not (eqb x.start to)) (bad_f a.start) (chain_from (tight_at rows v) a.start x.end (left src rows v (next_of rows u)))) n) ∙ i.1);
             ready = i.0;
           };
     }
@@ -238,7 +240,7 @@ module _ {src : Source} {rows : List Node} {s₀ s₁ : State} {v t : ℕ} {a : 
     chain-break one eb er = record {
       seen = λ good rdy.
           let i₀ = chain-some lv some w₀ one₀ k good rdy in
-          let i = chain-over lv inv lt et w one true eb good i₀.0 i₀.1 in
+          let i = chain-over lv inv o et w one true eb good i₀.0 i₀.1 in
           record { is = er ∙ i.1; ready = i.0 };
     }
 

@@ -10,7 +10,9 @@ ghost use Rattle.seek.specs.inner.Looks.{Narrows, Filters, Sought, Reached, Look
 
 use crate::fronts::{GONE, better, breaks, measure, past};
 use crate::{NONE, Searched, State};
-use nodes::{AND, HAS, IN, LIST, MARKS, MAX, OR, OUT, ROW, THEN, is_proof, next_of, stop_of};
+use nodes::{
+    AND, HAS, IN, LIST, MARKS, MAX, OR, OUT, ROW, THEN, is_proof, next_of, operands_of, stop_of,
+};
 use stretches::Stretch;
 
 // Whether the kind asks for one of B that holds a front, not for one inside it: `in` and `out`.
@@ -41,13 +43,9 @@ impl<'a> Searched<'a> {
         requires { v < 32 }
         ensures { kind_at self.now.rows.now v ≡ 1 → Sought (source_of self.now) self.now.rows.now st.old v t result st.new }
     {
-        let stop = stop_of(self.rows, v);
-        let mut c = v + 1;
         let mut best = GONE;
-        while c < stop {
-            let f = self.seek(st, c, t);
-            best = better(best, f);
-            c = next_of(self.rows, c);
+        for c in operands_of(self.rows, v) {
+            best = better(best, self.seek(st, c, t));
         }
         best
     }
@@ -58,18 +56,15 @@ impl<'a> Searched<'a> {
         requires { (v < 32) × (v + 1 < stop_of self.now.rows.now v) }
         ensures { kind_at self.now.rows.now v ≡ 2 → Looked (source_of self.now) self.now.rows.now st.old v t result st.new }
     {
-        let stop = stop_of(self.rows, v);
         let mut s: u32 = NONE;
         let mut e: u32 = 0;
-        let mut c = v + 1;
-        while c < stop {
+        for c in operands_of(self.rows, v) {
             let f = self.seek(st, c, t);
             if NONE <= f.start {
                 return GONE;
             }
             s = s.min(f.start);
             e = e.max(f.end);
-            c = next_of(self.rows, c);
         }
         Stretch { start: s, end: e }
     }
@@ -81,14 +76,14 @@ impl<'a> Searched<'a> {
         ensures { chain_kind (kind_at self.now.rows.now v) ≡ true → Looked (source_of self.now) self.now.rows.now st.old v t result st.new }
     {
         let tight = self.rows[v].kind == ROW;
-        let stop = stop_of(self.rows, v);
+        let mut rest = operands_of(self.rows, v);
+        rest.next();
         let a = self.seek(st, v + 1, t);
         if NONE <= a.start {
             return GONE;
         }
         let mut e = a.end;
-        let mut c = next_of(self.rows, v + 1);
-        while c < stop {
+        for c in rest {
             let to = past(e);
             let f = self.seek(st, c, to);
             if NONE <= f.start {
@@ -101,7 +96,6 @@ impl<'a> Searched<'a> {
                 };
             }
             e = f.end;
-            c = next_of(self.rows, c);
         }
         Stretch {
             start: a.start,

@@ -12,7 +12,6 @@ use Rattle.basics.proofs.Basics.{cases}
 use Rattle.std.specs.Option.{is_some}
 use Rattle.stretches.specs.declared.Node.{Node}
 use Rattle.stretches.specs.declared.Stretch.{Stretch}
-use Rattle.stretches.specs.Stretch.{st}
 use Rattle.stretches.specs.Front.{Front, None, Some}
 use Rattle.stretches.specs.Filling.{pairs_in, written, more_after}
 use Rattle.stretches.proofs.Filling.{drop-step, Partly, partly_more, partly-done, partly-all}

@@ -8,10 +8,10 @@ use native.Mathlib.Omega.{arith}
 use lib.Dec.{leb}
 use borrow.Author.Tests.{le-leb, lt-leb}
 use lib.ListN.{length}
+use Rattle.stretches.specs.declared.Node as stretches
 use Rattle.stretches.specs.declared.Stretch.{Stretch}
 use Rattle.stretches.specs.Stretch.{In, Op}
-use Rattle.stretches.specs.Front as fronts
-use Rattle.stretches.specs.Front.{None, Some, first_from, first_to}
+use Rattle.stretches.specs.Front.{Front, None, Some, first_from, first_to}
 use Rattle.stretches.specs.Operators.{apply}
 use Rattle.stretches.specs.Table.{kind_at, leaf_kind, chain_kind, next_of, stop_of}
 use Rattle.stretches.specs.Shown.{nothing}
@@ -29,90 +29,65 @@ use Rattle.meaning.specs.Shown.{Shown, shows, below, shown_from, shown_all}
 use Rattle.meaning.proofs.Shown.{by_kind, all_nothing}
 use Rattle.meaning.proofs.Table.{nodes-some, tree-size, tree-list}
 use Rattle.meaning.proofs.Tree.{fine-answers_of, fine-evals, fine-leaf}
-use Rattle.seek.specs.declared.Front.{Front}
+use Rattle.seek.specs.declared.state.State.{State}
 use Rattle.seek.specs.Source.{Source, list_over, Good}
-use Rattle.seek.specs.First.{none_f, front, Ready, FirstOf, ReachOf}
-use Rattle.seek.proofs.Ahead.{first-front, reach-front}
+use Rattle.seek.specs.First.{Ready, FirstOf, ReachOf}
 use Rattle.seek.proofs.Nodes.{fine}
-use Rattle.witness.specs.inner.Showing.{Grown, stretch_of, operand_of, Stands, ShownAt}
+use Rattle.witness.specs.inner.Showing.{Grown, operand_of, Stands, ShownAt}
 use Rattle.witness.proofs.Triples.{grown-none, grown-then}
 
--- ── What is found of an operand, as a front ──
+-- ── What is found of an operand ──
 
--- a front that passes the test, and one that does not
-kept-front : (p : Stretch → Bool) (o : fronts.Front) → ((y : Stretch) → o ≡ Some y → p y ≡ true) → front o ≡ front (only_if p o)
-kept-front p None h = refl
-kept-front p (Some y) h = sym (ap (λ (b : Bool). front (cond b (Some y) None)) (h y refl))
+-- a stretch that passes the test, and one that does not
+only-kept : (p : Stretch → Bool) (y : Stretch) → p y ≡ true → Some y ≡ only_if p (Some y)
+only-kept p y h = sym (ap (λ (b : Bool). cond b (Some y) None) h)
 
-lost-front : (p : Stretch → Bool) (o : fronts.Front) → ((y : Stretch) → o ≡ Some y → p y ≡ false) → none_f ≡ front (only_if p o)
-lost-front p None h = refl
-lost-front p (Some y) h = sym (ap (λ (b : Bool). front (cond b (Some y) None)) (h y refl))
+only-lost : (p : Stretch → Bool) (y : Stretch) → p y ≡ false → None ≡ only_if p (Some y)
+only-lost p y h = sym (ap (λ (b : Bool). cond b (Some y) None) h)
 
 -- what an operand gives, where it is sought by the answer's end and where from a line on, by the test that follows
-module _ (src : Source) (table s s' : List ℕ) (by_end : Bool) (c t : ℕ) (f g : Front) (good : Good src table) (rdy : Ready src table s) (lc : c < 32) where
-  pub to-kept : by_end ≡ true → ReachOf src table s c f.end g s' → g.start ≤ f.start → (g ≡ operand_of src table c t by_end f) × Ready src table s'
-  unfolding operand_of
-  to-kept e w h =
-      let is = reach-front w good rdy lc in (
-        is ∙ kept-front (λ y. leb y.start f.start) (first_to (list_over src table c) f.end) (λ y k. le-leb y.start f.start (omega (arith, ap (λ (x : Front). x.start) (is ∙ ap front k))))
-            ∙ ap (λ (b : Bool). front (found_one b (stretch_of f) t (list_over src table c))) (sym e),
-        (w.finds lc good rdy).ready,
-      )
+module _ (src : Source) (table : List stretches.Node) (s s' : State) (by_end : Bool) (c t : ℕ) (f : Stretch) (good : Good src table) (rdy : Ready src table s) (lc : c < 32) where
+  abbrev Gave : Front → Type 0
+  Gave r = (r ≡ operand_of src table c t by_end f) × Ready src table s'
 
-  pub to-lost : by_end ≡ true → ReachOf src table s c f.end g s' → f.start < g.start → (none_f ≡ operand_of src table c t by_end f) × Ready src table s'
-  unfolding operand_of
-  to-lost e w h =
-      let is = reach-front w good rdy lc in (
-        lost-front (λ y. leb y.start f.start) (first_to (list_over src table c) f.end) (λ y k. lt-leb y.start f.start (omega (arith, ap (λ (x : Front). x.start) (is ∙ ap front k))))
-            ∙ ap (λ (b : Bool). front (found_one b (stretch_of f) t (list_over src table c))) (sym e),
-        (w.finds lc good rdy).ready,
-      )
+  module _ {o : Front} (e : by_end ≡ true) (w : ReachOf src table s c f.end o s') where
+    to_is : (r : Front) → r ≡ only_if (λ y. leb y.start f.start) o → Gave r
+    unfolding operand_of
+    to_is r k =
+        let d = w.finds lc good rdy in
+        (k ∙ ap (only_if (λ y. leb y.start f.start)) d.is ∙ ap (λ (b : Bool). found_one b f t (list_over src table c)) (sym e), d.ready)
 
-  pub from-kept : by_end ≡ false → FirstOf src table s c t g s' → g.end ≤ f.end → (g ≡ operand_of src table c t by_end f) × Ready src table s'
-  unfolding operand_of
-  from-kept e w h =
-      let is = first-front w good rdy lc in (
-        is ∙ kept-front (λ y. leb y.end f.end) (first_from (list_over src table c) t) (λ y k. le-leb y.end f.end (omega (arith, ap (λ (x : Front). x.end) (is ∙ ap front k))))
-            ∙ ap (λ (b : Bool). front (found_one b (stretch_of f) t (list_over src table c))) (sym e),
-        (w.finds lc good rdy).ready,
-      )
+    pub to-none : o ≡ None → Gave None
+    to-none k = to_is None (sym (ap (only_if (λ y. leb y.start f.start)) k))
 
-  pub from-lost : by_end ≡ false → FirstOf src table s c t g s' → f.end < g.end → (none_f ≡ operand_of src table c t by_end f) × Ready src table s'
-  unfolding operand_of
-  from-lost e w h =
-      let is = first-front w good rdy lc in (
-        lost-front (λ y. leb y.end f.end) (first_from (list_over src table c) t) (λ y k. lt-leb y.end f.end (omega (arith, ap (λ (x : Front). x.end) (is ∙ ap front k))))
-            ∙ ap (λ (b : Bool). front (found_one b (stretch_of f) t (list_over src table c))) (sym e),
-        (w.finds lc good rdy).ready,
-      )
+    pub to-kept : {g : Stretch} → o ≡ Some g → g.start ≤ f.start → Gave (Some g)
+    to-kept {g} k h = to_is (Some g) (only-kept (λ y. leb y.start f.start) g (le-leb g.start f.start h) ∙ sym (ap (only_if (λ y. leb y.start f.start)) k))
 
--- a stretch is there
-operand_at : (o : fronts.Front) {g : Front} → g ≡ front o → g.start < 65536 → o ≡ Some (stretch_of g)
-operand_at None e lt = absurd (omega (arith, ap (λ (x : Front). x.start) e))
-operand_at (Some y) e lt = sym (ap (λ (x : Front). Some (stretch_of x)) e)
+    pub to-lost : {g : Stretch} → o ≡ Some g → f.start < g.start → Gave None
+    to-lost {g} k h = to_is None (only-lost (λ y. leb y.start f.start) g (lt-leb g.start f.start h) ∙ sym (ap (only_if (λ y. leb y.start f.start)) k))
 
-module _ (src : Source) (table : List ℕ) (by_end : Bool) (f : Front) (c t : ℕ) (g : Front) (good : Good src table) (lc : c < 32) where
-  abbrev one_found : fronts.Front
-  one_found = found_one by_end (stretch_of f) t (list_over src table c)
+  module _ {o : Front} (e : by_end ≡ false) (w : FirstOf src table s c t o s') where
+    from_is : (r : Front) → r ≡ only_if (λ y. leb y.end f.end) o → Gave r
+    unfolding operand_of
+    from_is r k =
+        let d = w.finds lc good rdy in
+        (k ∙ ap (only_if (λ y. leb y.end f.end)) d.is ∙ ap (λ (b : Bool). found_one b f t (list_over src table c)) (sym e), d.ready)
 
-  small : (y : Stretch) → one_found ≡ Some y → (y.start < 65536) × (y.end < 65536)
-  small y k =
-      let d = fine src table good c lc in
-      let m = one_in by_end (stretch_of f) t (list_over src table c) d.rising y k in
-      (omega (arith, d.sound y.start y.end m, d.below y.start y.end m), d.below y.start y.end m)
+    pub from-none : o ≡ None → Gave None
+    from-none k = from_is None (sym (ap (only_if (λ y. leb y.end f.end)) k))
 
-  -- or none
-  operand-none : g ≡ front one_found → 65536 ≤ g.start → one_found ≡ None
-  operand-none e h = go one_found refl
-    where
-      go : (o : fronts.Front) → one_found ≡ o → o ≡ None
-      go None k = refl
-      go (Some y) k = absurd (omega (arith, ap (λ (x : Front). x.start) (e ∙ ap front k), small y k))
+    pub from-kept : {g : Stretch} → o ≡ Some g → g.end ≤ f.end → Gave (Some g)
+    from-kept {g} k h = from_is (Some g) (only-kept (λ y. leb y.end f.end) g (le-leb g.end f.end h) ∙ sym (ap (only_if (λ y. leb y.end f.end)) k))
 
--- it ends below line 65,536
-pub operand_low : (src : Source) (table : List ℕ) (by_end : Bool) (f : Front) (c t : ℕ) (g : Front) → Good src table → c < 32 → g ≡ operand_of src table c t by_end f → g.start < 65536 → g.end < 65536
+    pub from-lost : {g : Stretch} → o ≡ Some g → f.end < g.end → Gave None
+    from-lost {g} k h = from_is None (only-lost (λ y. leb y.end f.end) g (lt-leb g.end f.end h) ∙ sym (ap (only_if (λ y. leb y.end f.end)) k))
+
+-- what is found ends below line 65,536
+pub operand_low : (src : Source) (table : List stretches.Node) (by_end : Bool) (f : Stretch) (c t : ℕ) {g : Stretch} → Good src table → c < 32 → operand_of src table c t by_end f ≡ Some g → g.end < 65536
 unfolding operand_of
-operand_low src table by_end f c t g good lc e h = (small src table by_end f c t g good lc (stretch_of g) (operand_at (found_one by_end (stretch_of f) t (list_over src table c)) e h)).1
+operand_low src table by_end f c t {g} good lc e =
+    let d = fine src table good c lc in
+    d.below g.start g.end (one_in by_end f t (list_over src table c) d.rising g e)
 
 -- ── What the operands from node c on show, the first of them sought from line t ──
 
@@ -144,47 +119,47 @@ module _ (w : Valuation) (each chain by_end later : Bool) (x : Stretch) (c t : �
 
 -- for a pattern at node v with the answer x: once node v itself is shown, with n triples in the cells, the operands before node c have shown their part, with k in
 -- the cells now; those from c on are left, the next being sought from line t
-record Left (rows : List ℕ) (v : ℕ) (x : Stretch) (n : ℕ) (cells : List ℕ) (each chain by_end later : Bool) (c t k : ℕ) (cells' : List ℕ) (ls : List Line) (p : Pattern) (left : Patterns) : Type 0 where
+record Left (rows : List stretches.Node) (v : ℕ) (x : Stretch) (n : ℕ) (cells : List ℕ) (each chain by_end later : Bool) (c t k : ℕ) (cells' : List ℕ) (ls : List Line) (p : Pattern) (left : Patterns) : Type 0 where
   done : List Shown
   trees : Trees rows c left
   ends : c + nodes_of left ≡ stop_of rows v
   grown : Grown done n cells k cells'
   whole : shown_from (over_lines ls) v p x ≡ shows v x ∷ (done ++ shown_left (over_lines ls) each chain by_end later x c t left)
 
-record Partway (rows : List ℕ) (v : ℕ) (x : Stretch) (n : ℕ) (cells : List ℕ) (each chain by_end later : Bool) (c t k : ℕ) (cells' : List ℕ) (ls : List Line) (p : Pattern) : Type 0 where
+record Partway (rows : List stretches.Node) (v : ℕ) (x : Stretch) (n : ℕ) (cells : List ℕ) (each chain by_end later : Bool) (c t k : ℕ) (cells' : List ℕ) (ls : List Line) (p : Pattern) : Type 0 where
   left : Patterns
   is : Left rows v x n cells each chain by_end later c t k cells' ls p left
 
-pub record Midway (src : Source) (table rows : List ℕ) (v : ℕ) (f : Front) (n : ℕ) (cells : List ℕ) (each chain by_end later : Bool) (c t k : ℕ) (cells' : List ℕ) : Type 0 where
-  at : (ls : List Line) (p : Pattern) → Stands src table rows ls v p → In f.start f.end (answers_of p ls) → Partway rows v (stretch_of f) n cells each chain by_end later c t k cells' ls p
+pub record Midway (src : Source) (table rows : List stretches.Node) (v : ℕ) (f : Stretch) (n : ℕ) (cells : List ℕ) (each chain by_end later : Bool) (c t k : ℕ) (cells' : List ℕ) : Type 0 where
+  at : (ls : List Line) (p : Pattern) → Stands src table rows ls v p → In f.start f.end (answers_of p ls) → Partway rows v f n cells each chain by_end later c t k cells' ls p
 
 -- a leaf
-pub node-leaf : {src : Source} {table rows : List ℕ} {v : ℕ} {f : Front} {n : ℕ} {cells : List ℕ} {k : ℕ} {cells' : List ℕ}
-    → Grown (shows v (stretch_of f) ∷ []) n cells k cells' → leaf_kind (kind_at rows v) ≡ true → ShownAt src table rows v f n cells k cells'
+pub node-leaf : {src : Source} {table rows : List stretches.Node} {v : ℕ} {f : Stretch} {n : ℕ} {cells : List ℕ} {k : ℕ} {cells' : List ℕ}
+    → Grown (shows v f ∷ []) n cells k cells' → leaf_kind (kind_at rows v) ≡ true → ShownAt src table rows v f n cells k cells'
 node-leaf {src} {table} {rows} {v} {f} {n} {cells} {k} {cells'} g leaf = record { grows = go }
   where
-    go : (ls : List Line) (p : Pattern) → Stands src table rows ls v p → In f.start f.end (answers_of p ls) → Grown (shown_from (over_lines ls) v p (stretch_of f)) n cells k cells'
+    go : (ls : List Line) (p : Pattern) → Stands src table rows ls v p → In f.start f.end (answers_of p ls) → Grown (shown_from (over_lines ls) v p f) n cells k cells'
     go ls (Node h ps) s i =
         let o = leaf-none (measure_in ls) (kind_of h) (first_of h) (ap leaf_kind (sym s.tree.0.kind) ∙ leaf) in
-        subst (λ (d : List Shown). Grown (shows v (stretch_of f) ∷ d) n cells k cells')
-        (sym (ap (λ (q : Option Op). shown_all (over_lines ls) (suc v) ps (below q (evals (over_lines ls) ps) (stretch_of f))) o ∙ all_nothing (over_lines ls) (suc v) ps (evals (over_lines ls) ps))) g
+        subst (λ (d : List Shown). Grown (shows v f ∷ d) n cells k cells')
+        (sym (ap (λ (q : Option Op). shown_all (over_lines ls) (suc v) ps (below q (evals (over_lines ls) ps) f)) o ∙ all_nothing (over_lines ls) (suc v) ps (evals (over_lines ls) ps))) g
 
-module _ {src : Source} {table rows : List ℕ} {v : ℕ} {f : Front} {n : ℕ} {cells : List ℕ} {each chain later : Bool} where
+module _ {src : Source} {table rows : List stretches.Node} {v : ℕ} {f : Stretch} {n : ℕ} {cells : List ℕ} {each chain later : Bool} where
   -- before the first operand
   pub node-start : leaf_kind (kind_at rows v) ≡ false → each ≡ each_kind (kind_at rows v) → chain ≡ chain_kind (kind_at rows v) → later ≡ by_end_kind (kind_at rows v) → Midway src table rows v f n cells each chain false later (v + 1) f.start n cells
   node-start leaf ee ec eh = record { at = go }
     where
-      go : (ls : List Line) (p : Pattern) → Stands src table rows ls v p → In f.start f.end (answers_of p ls) → Partway rows v (stretch_of f) n cells each chain false later (v + 1) f.start n cells ls p
+      go : (ls : List Line) (p : Pattern) → Stands src table rows ls v p → In f.start f.end (answers_of p ls) → Partway rows v f n cells each chain false later (v + 1) f.start n cells ls p
       go ls (Node h ps) s i =
           let w = over_lines ls in
           let kind = s.tree.0.kind in
           let o = by_kind (measure_in ls) h (ap leaf_kind (sym kind) ∙ leaf) in
           let d = fine-evals (length ls) w (fine-leaf ls) ps in
           let j = subst (λ (q : Option Op). In f.start f.end (apply q (w.leaf h) (evals w ps))) o.is i in
-          let b : below (operator (measure_in ls) h) (evals w ps) (stretch_of f) ≡ found_below (not each) chain false later (stretch_of f) f.start (evals w ps) =
-          ap (λ (q : Option Op). below q (evals w ps) (stretch_of f)) o.is ∙ below-found o.op (evals w ps) d.rising d.sound (stretch_of f) j
-          ∙ ap₂ (λ (y z : Bool). found_below y z false (below-flags.by_end o.op) (stretch_of f) f.start (evals w ps)) (o.one ∙ ap (λ (q : ℕ). not (each_kind q)) (sym kind) ∙ ap not (sym ee)) (o.chain ∙ ap chain_kind (sym kind) ∙ sym ec)
-          ∙ ap (λ (y : Bool). found_below (not each) chain false y (stretch_of f) f.start (evals w ps)) (o.by_end ∙ ap by_end_kind (sym kind) ∙ sym eh) in
+          let b : below (operator (measure_in ls) h) (evals w ps) f ≡ found_below (not each) chain false later f f.start (evals w ps) =
+          ap (λ (q : Option Op). below q (evals w ps) f) o.is ∙ below-found o.op (evals w ps) d.rising d.sound f j
+          ∙ ap₂ (λ (y z : Bool). found_below y z false (below-flags.by_end o.op) f f.start (evals w ps)) (o.one ∙ ap (λ (q : ℕ). not (each_kind q)) (sym kind) ∙ ap not (sym ee)) (o.chain ∙ ap chain_kind (sym kind) ∙ sym ec)
+          ∙ ap (λ (y : Bool). found_below (not each) chain false y f f.start (evals w ps)) (o.by_end ∙ ap by_end_kind (sym kind) ∙ sym eh) in
           let z : suc v ≡ v + 1 = omega arith in
           let stop = stop_is rows v (suc (nodes_of ps)) s.tree.0.size (omega arith) s.fits in
           record {
@@ -194,32 +169,32 @@ module _ {src : Source} {table rows : List ℕ} {v : ℕ} {f : Front} {n : ℕ} 
               trees = s.tree.1;
               ends = omega arith;
               grown = grown-none n cells;
-              whole = ap₂ (λ (c : ℕ) (fs : List fronts.Front). shows v (stretch_of f) ∷ shown_all w c ps fs) z b;
+              whole = ap₂ (λ (c : ℕ) (fs : List Front). shows v f ∷ shown_all w c ps fs) z b;
             };
           }
 
   module _ {by_end : Bool} {c t k : ℕ} {cells' : List ℕ} (m : Midway src table rows v f n cells each chain by_end later c t k cells') where
     -- past the last operand
-    pub node_end : {n₀ : ℕ} {cells₀ : List ℕ} → Grown (shows v (stretch_of f) ∷ []) n₀ cells₀ n cells → stop_of rows v ≤ c → ShownAt src table rows v f n₀ cells₀ k cells'
+    pub node_end : {n₀ : ℕ} {cells₀ : List ℕ} → Grown (shows v f ∷ []) n₀ cells₀ n cells → stop_of rows v ≤ c → ShownAt src table rows v f n₀ cells₀ k cells'
     node_end {n₀} {cells₀} own h = record { grows = λ ls p s i. let w = m.at ls p s i in go ls p w.left w.is }
       where
-        go : (ls : List Line) (p : Pattern) (left : Patterns) → Left rows v (stretch_of f) n cells each chain by_end later c t k cells' ls p left → Grown (shown_from (over_lines ls) v p (stretch_of f)) n₀ cells₀ k cells'
-        go ls p Nil w = subst (λ (d : List Shown). Grown d n₀ cells₀ k cells') (sym (w.whole ∙ ap (λ (r : List Shown). shows v (stretch_of f) ∷ r) (append-nil w.done))) (grown-then (shows v (stretch_of f) ∷ []) w.done own w.grown)
+        go : (ls : List Line) (p : Pattern) (left : Patterns) → Left rows v f n cells each chain by_end later c t k cells' ls p left → Grown (shown_from (over_lines ls) v p f) n₀ cells₀ k cells'
+        go ls p Nil w = subst (λ (d : List Shown). Grown d n₀ cells₀ k cells') (sym (w.whole ∙ ap (λ (r : List Shown). shows v f ∷ r) (append-nil w.done))) (grown-then (shows v f ∷ []) w.done own w.grown)
         go ls p (Cons q qs) w = absurd (omega (arith, w.ends, nodes-some q))
 
-    -- ── A turn: operand c's front g from line t on ──
+    -- ── A turn: what is found of operand c from line t on ──
 
-    module _ {g : Front} (more : c < stop_of rows v) (good : Good src table) (sought : g ≡ operand_of src table c t by_end f) where
+    module _ {r : Front} (more : c < stop_of rows v) (good : Good src table) (sought : r ≡ operand_of src table c t by_end f) where
       -- the operand there
       record Operand (ls : List Line) (p : Pattern) : Type 0 where
         q : Pattern
         rest : Patterns
-        is : Left rows v (stretch_of f) n cells each chain by_end later c t k cells' ls p (Cons q rest)
+        is : Left rows v f n cells each chain by_end later c t k cells' ls p (Cons q rest)
 
       operand : (ls : List Line) (p : Pattern) → Stands src table rows ls v p → In f.start f.end (answers_of p ls) → Operand ls p
       operand ls p stands i = let w = m.at ls p stands i in go w.left w.is
         where
-          go : (left : Patterns) → Left rows v (stretch_of f) n cells each chain by_end later c t k cells' ls p left → Operand ls p
+          go : (left : Patterns) → Left rows v f n cells each chain by_end later c t k cells' ls p left → Operand ls p
           go Nil w = absurd (omega (arith, w.ends))
           go (Cons q qs) w = record { q = q; rest = qs; is = w }
 
@@ -227,24 +202,21 @@ module _ {src : Source} {table rows : List ℕ} {v : ℕ} {f : Front} {n : ℕ} 
         abbrev list : List Stretch
         list = eval (over_lines ls) o.q
 
-        abbrev part : List Shown
-        part = shown_from (over_lines ls) c o.q (stretch_of g)
-
         within : Stands src table rows ls c o.q
         within = record { tree = o.is.trees.0; fits = omega (arith, o.is.ends, stop-most rows v); lists = stands.lists }
 
         lists : list_over src table c ≡ list
         lists = stands.lists c ∙ tree-list rows ls c o.q within.tree within.fits
 
-        there : found_one by_end (stretch_of f) t (list_over src table c) ≡ found_one by_end (stretch_of f) t list
-        there = ap (found_one by_end (stretch_of f) t) lists
+        there : found_one by_end f t (list_over src table c) ≡ found_one by_end f t list
+        there = ap (found_one by_end f t) lists
 
         -- the operands behind it, when it has shown d
         behind : {c' t' k' : ℕ} {cells'' : List ℕ} (d : List Shown) → c' ≡ next_of rows c → Grown (o.is.done ++ d) n cells k' cells''
-            → shown_left (over_lines ls) each chain by_end later (stretch_of f) c t (Cons o.q o.rest) ≡ d ++ shown_left (over_lines ls) each chain later later (stretch_of f) (c + nodes o.q) t' o.rest
-            → Partway rows v (stretch_of f) n cells each chain later later c' t' k' cells'' ls p
+            → shown_left (over_lines ls) each chain by_end later f c t (Cons o.q o.rest) ≡ d ++ shown_left (over_lines ls) each chain later later f (c + nodes o.q) t' o.rest
+            → Partway rows v f n cells each chain later later c' t' k' cells'' ls p
         behind {c'} {t'} {k'} {cells''} d en gr e =
-            subst (λ (u : ℕ). Partway rows v (stretch_of f) n cells each chain later later u t' k' cells'' ls p)
+            subst (λ (u : ℕ). Partway rows v f n cells each chain later later u t' k' cells'' ls p)
             (sym (en ∙ next-is rows c (nodes o.q) (tree-size rows c o.q within.tree) (nodes-some o.q) within.fits))
             (record {
               left = o.rest;
@@ -253,40 +225,43 @@ module _ {src : Source} {table rows : List ℕ} {v : ℕ} {f : Front} {n : ℕ} 
                 trees = o.is.trees.1;
                 ends = omega (arith, o.is.ends);
                 grown = gr;
-                whole = o.is.whole ∙ ap (λ (r : List Shown). shows v (stretch_of f) ∷ r)
-                    (ap (λ (r : List Shown). o.is.done ++ r) e ∙ sym (append_assoc o.is.done d (shown_left (over_lines ls) each chain later later (stretch_of f) (c + nodes o.q) t' o.rest)));
+                whole = o.is.whole ∙ ap (λ (r : List Shown). shows v f ∷ r)
+                    (ap (λ (r : List Shown). o.is.done ++ r) e ∙ sym (append_assoc o.is.done d (shown_left (over_lines ls) each chain later later f (c + nodes o.q) t' o.rest)));
               };
             })
 
-        module _ (one : g.start < 65536) where
-          found : found_one by_end (stretch_of f) t list ≡ Some (stretch_of g)
+        module _ {g : Stretch} (one : r ≡ Some g) where
+          abbrev part : List Shown
+          part = shown_from (over_lines ls) c o.q g
+
+          found : found_one by_end f t list ≡ Some g
           unfolding operand_of
-          found = sym there ∙ operand_at (found_one by_end (stretch_of f) t (list_over src table c)) sought one
+          found = sym there ∙ sym sought ∙ one
 
           part-grown : {k' : ℕ} {cells'' : List ℕ} → ShownAt src table rows c g k cells' k' cells'' → Grown (o.is.done ++ part) n cells k' cells''
-          part-grown sub = grown-then o.is.done part o.is.grown (sub.grows ls o.q within (one_in by_end (stretch_of f) t list (fine-answers_of o.q ls).rising (stretch_of g) found))
+          part-grown sub = grown-then o.is.done part o.is.grown (sub.grows ls o.q within (one_in by_end f t list (fine-answers_of o.q ls).rising g found))
 
       -- nothing is shown of it
-      pub turn-past : {c' : ℕ} → 65536 ≤ g.start → c' ≡ next_of rows c → Midway src table rows v f n cells each chain later later c' t k cells'
+      pub turn-past : {c' : ℕ} → r ≡ None → c' ≡ next_of rows c → Midway src table rows v f n cells each chain later later c' t k cells'
       unfolding operand_of
       turn-past h en = record {
         at = λ ls p stands i.
             let o = operand ls p stands i in
             behind ls p stands o [] en (subst (λ (d : List Shown). Grown d n cells k cells') (sym (append-nil o.is.done)) o.is.grown)
-            (left-past (over_lines ls) each chain by_end later (stretch_of f) c t o.q o.rest (sym (there ls p stands o) ∙ operand-none src table by_end f c t g good (omega (arith, stop-most rows v)) sought h));
+            (left-past (over_lines ls) each chain by_end later f c t o.q o.rest (sym (there ls p stands o) ∙ sym sought ∙ h));
       }
 
       -- it is shown
-      module _ (one : g.start < 65536) {k' : ℕ} {cells'' : List ℕ} (sub : ShownAt src table rows c g k cells' k' cells'') where
+      module _ {g : Stretch} (one : r ≡ Some g) {k' : ℕ} {cells'' : List ℕ} (sub : ShownAt src table rows c g k cells' k' cells'') where
         -- alone
-        pub turn_last : {n₀ : ℕ} {cells₀ : List ℕ} → Grown (shows v (stretch_of f) ∷ []) n₀ cells₀ n cells → each ≡ false → ShownAt src table rows v f n₀ cells₀ k' cells''
+        pub turn_last : {n₀ : ℕ} {cells₀ : List ℕ} → Grown (shows v f ∷ []) n₀ cells₀ n cells → each ≡ false → ShownAt src table rows v f n₀ cells₀ k' cells''
         turn_last {n₀} {cells₀} own alone = record {
           grows = λ ls p stands i.
               let o = operand ls p stands i in
               subst (λ (d : List Shown). Grown d n₀ cells₀ k' cells'')
-              (sym (o.is.whole ∙ ap (λ (r : List Shown). shows v (stretch_of f) ∷ (o.is.done ++ r))
-              (left_alone (over_lines ls) each chain by_end later (stretch_of f) c t o.q o.rest (stretch_of g) (found ls p stands o one) alone)))
-              (grown-then (shows v (stretch_of f) ∷ []) (o.is.done ++ part ls p stands o) own (part-grown ls p stands o one sub));
+              (sym (o.is.whole ∙ ap (λ (r : List Shown). shows v f ∷ (o.is.done ++ r))
+              (left_alone (over_lines ls) each chain by_end later f c t o.q o.rest g (found ls p stands o one) alone)))
+              (grown-then (shows v f ∷ []) (o.is.done ++ part ls p stands o one) own (part-grown ls p stands o one sub));
         }
 
         -- with the operands behind it
@@ -294,6 +269,6 @@ module _ {src : Source} {table rows : List ℕ} {v : ℕ} {f : Front} {n : ℕ} 
         turn_more {c'} {t'} all en e = record {
           at = λ ls p stands i.
               let o = operand ls p stands i in
-              behind ls p stands o (part ls p stands o) en (part-grown ls p stands o one sub)
-              (left-more (over_lines ls) each chain by_end later (stretch_of f) c t o.q o.rest (stretch_of g) (found ls p stands o one) t' all e);
+              behind ls p stands o (part ls p stands o one) en (part-grown ls p stands o one sub)
+              (left-more (over_lines ls) each chain by_end later f c t o.q o.rest g (found ls p stands o one) t' all e);
         }

@@ -3,35 +3,34 @@
 #![tactic(auto)]
 
 ghost use Rattle.std.specs.Prelude.{◌≡◌, true, cond, [], ◌∷◌, ◌+◌, ◌≤◌, ◌<◌, length};
-ghost use Rattle.stretches.specs.Stretch.{st};
 ghost use Rattle.stretches.specs.inner.Below.{each_kind};
 ghost use Rattle.meaning.specs.Shown.{shows};
-ghost use Rattle.seek.specs.Source.{source, Good};
+ghost use Rattle.seek.specs.Source.{source_of, Good};
 ghost use Rattle.seek.specs.First.{Ready};
-ghost use Rattle.plan.specs.Plan.{width_of};
-ghost use Rattle.plan.specs.inner.Room.{Roomy};
+ghost use Rattle.meaning.specs.Replies.{reply};
 ghost use Rattle.witness.specs.Witness.{shown_in, filled_shown, witnessing};
 ghost use Rattle.witness.specs.inner.Showing.{Grown, operand_of, ShownAt, AnswerShown, TableShown};
 
 use acceptance::read_both;
-use meaning::Reply;
-use nodes::{AND, IN, TABLE, is_chain, is_leaf, is_proof, next_of, stop_of};
-use plan::{FEW, FEW_SOUND, FEW_WORDS, SOUND, WORDS};
-use seek::{Front, NONE, STATE};
+use meaning::Refusal;
+use nodes::{AND, IN, Nodes, is_chain, is_leaf, is_proof, next_of, stop_of};
+use plan::with_marks;
+use seek::{Searched, State};
+use stretches::Stretch;
 
 // ── One answer ──
 
-// Writes node v and the stretch from s to e behind n triples, if a whole triple fits: how many there are now.
-fn put(cells: &mut [u32], n: usize, v: usize, s: u32, e: u32) -> usize
+// Writes node v and its stretch behind n triples, if a whole triple fits: how many there are now.
+fn put(cells: &mut [u32], n: usize, v: usize, x: Stretch) -> usize
     requires { v < 32 }
-    ensures { Grown (shows v (st s e) ∷ []) n cells.old result cells.new }
+    ensures { Grown (shows v x ∷ []) n cells.old result cells.new }
 {
     if cells.len() / 3 <= n {
         return n;
     }
     cells[3 * n] = v as u32;
-    cells[3 * n + 1] = s;
-    cells[3 * n + 2] = e;
+    cells[3 * n + 1] = x.start;
+    cells[3 * n + 2] = x.end;
     n + 1
 }
 
@@ -39,13 +38,7 @@ fn put(cells: &mut [u32], n: usize, v: usize, s: u32, e: u32) -> usize
 fn shows_each(kind: usize) -> bool
     ensures { result ≡ each_kind kind }
 {
-    if kind == AND {
-        return true;
-    }
-    if is_chain(kind) {
-        return true;
-    }
-    is_proof(kind)
+    kind == AND || is_chain(kind) || is_proof(kind)
 }
 
 // The line from which the next operand is sought, after one that ends at line e.
@@ -59,57 +52,46 @@ fn after(chain: bool, t: u32, e: u32) -> u32
 // What is shown of operand c for the answer f, none where nothing is: its first stretch from line t on, if it does not end behind f. Enclosing, as B of `in`,
 // its first to f's end, if it does not start behind f's start.
 fn operand(
-    table: &[usize; TABLE],
-    words: &[u64],
-    items: &[u32],
-    sound: &[u64],
-    st: &mut [u32; STATE],
+    searched: &Searched,
+    st: &mut State,
     c: usize,
     t: u32,
     enclosing: bool,
-    f: Front,
-) -> Front
-    requires { Good (source words.now items.now sound.now) table.now × Ready (source words.now items.now sound.now) table.now st.old × (c < 32) }
-    ensures value { result ≡ operand_of (source words.now items.now sound.now) table.now c t enclosing f }
-    ensures ready { Ready (source words.now items.now sound.now) table.now st.new }
+    f: Stretch,
+) -> Option<Stretch>
+    requires { Good (source_of searched.now) searched.now.rows.now × Ready (source_of searched.now) searched.now.rows.now st.old × (c < 32) }
+    ensures value { result ≡ operand_of (source_of searched.now) searched.now.rows.now c t enclosing f }
+    ensures ready { Ready (source_of searched.now) searched.now.rows.now st.new }
 {
-    let none = Front {
-        start: NONE,
-        end: NONE,
-    };
     if enclosing {
-        let g = seek::first_to(table, words, items, sound, st, c, f.end);
-        if g.start <= f.start {
-            return g;
-        }
-        return none;
+        let Some(g) = searched.first_to(st, c, f.end) else {
+            return None;
+        };
+        return if g.start <= f.start { Some(g) } else { None };
     }
-    let g = seek::first(table, words, items, sound, st, c, t);
-    if g.end <= f.end { g } else { none }
+    let Some(g) = searched.first(st, c, t) else {
+        return None;
+    };
+    if g.end <= f.end { Some(g) } else { None }
 }
 
 // Writes what node v shows of its answer f behind n triples: how many there are now. Of an `or` what is found of an operand is f itself, `and`, `row` and
 // `then` have one from each operand, the filters have f, and `in` and `has` one of B behind it. rows is the pattern's table, and table the machine's.
 fn show_node(
-    rows: &[usize; TABLE],
-    table: &[usize; TABLE],
-    words: &[u64],
-    items: &[u32],
-    sound: &[u64],
-    st: &mut [u32; STATE],
+    rows: &Nodes,
+    searched: &Searched,
+    st: &mut State,
     cells: &mut [u32],
     v: usize,
-    f: Front,
+    f: Stretch,
     n: usize,
 ) -> usize
-    requires { Good (source words.now items.now sound.now) table.now × Ready (source words.now items.now sound.now) table.now st.old × (v < 32) }
-    ensures shown_at { ShownAt (source words.now items.now sound.now) table.now rows.now v f n cells.old result cells.new }
-    ensures ready { Ready (source words.now items.now sound.now) table.now st.new }
+    requires { Good (source_of searched.now) searched.now.rows.now × Ready (source_of searched.now) searched.now.rows.now st.old × (v < 32) }
+    ensures shown_at { ShownAt (source_of searched.now) searched.now.rows.now rows.now v f n cells.old result cells.new }
+    ensures ready { Ready (source_of searched.now) searched.now.rows.now st.new }
 {
-    let s = f.start;
-    let e = f.end;
-    let mut k = put(cells, n, v, s, e);
-    let kind = rows[v];
+    let mut k = put(cells, n, v, f);
+    let kind = rows[v].kind;
     if is_leaf(kind) {
         return k;
     }
@@ -118,164 +100,63 @@ fn show_node(
     let later = kind == IN;
     let stop = stop_of(rows, v);
     let mut c = v + 1;
-    let mut t = s;
+    let mut t = f.start;
     let mut enclosing = false;
     while c < stop {
-        let g = operand(
-            table,
-            words,
-            items,
-            sound,
-            st,
-            c,
-            t,
-            enclosing,
-            Front { start: s, end: e },
-        );
+        let found = operand(searched, st, c, t, enclosing, f);
         enclosing = later;
         let next = next_of(rows, c);
-        let end = g.end;
-        if NONE <= g.start {
-            c = next;
-        } else {
-            k = show_node(rows, table, words, items, sound, st, cells, c, g, k);
+        if let Some(g) = found {
+            k = show_node(rows, searched, st, cells, c, g, k);
             if !each {
                 return k;
             }
-            t = after(chain, t, end);
-            c = next;
+            t = after(chain, t, g.end);
         }
+        c = next;
     }
     k
 }
 
 // Writes what answer number `number` of the table's first node shows.
-fn show_answer(
-    rows: &[usize; TABLE],
-    table: &[usize; TABLE],
-    words: &[u64],
-    items: &[u32],
-    sound: &[u64],
-    number: usize,
-    cells: &mut [u32],
-) -> usize
-    requires { Good (source words.now items.now sound.now) table.now }
-    ensures { AnswerShown (source words.now items.now sound.now) table.now rows.now number cells.old result cells.new }
+fn show_answer(rows: &Nodes, searched: &Searched, number: usize, cells: &mut [u32]) -> usize
+    requires { Good (source_of searched.now) searched.now.rows.now }
+    ensures { AnswerShown (source_of searched.now) searched.now.rows.now rows.now number cells.old result cells.new }
 {
     let mut pair = [0u32; 2];
-    let w = walk::fill(table, words, items, sound, &mut pair[..], 0, number);
+    let w = walk::fill(searched, &mut pair, 0, number);
     if w.count == 0 {
         return 0;
     }
-    let f = Front {
+    let f = Stretch {
         start: pair[0],
         end: pair[1],
     };
-    let mut st = [0u32; STATE];
-    show_node(rows, table, words, items, sound, &mut st, cells, 0, f, 0)
+    let mut st = State::new();
+    show_node(rows, searched, &mut st, cells, 0, f, 0)
 }
 
 // ── The call ──
 
-// Marks the log's lines into these words, and writes what the answer shows.
-fn show_with(
-    rows: &[usize; TABLE],
-    log: &[u8],
-    width: usize,
-    words: &mut [u64],
-    sound: &mut [u64],
-    number: usize,
-    cells: &mut [u32],
-) -> usize
-    requires { Roomy rows.now log.now width words.old sound.old }
-    ensures { TableShown rows.now log.now number cells.old result cells.new }
-{
-    let n = plan::sound_words(rows, width);
-    let table = plan::prepare(rows, log, width, words, &mut sound[..n]);
-    let items = [0u32; 1];
-    show_answer(rows, &table, words, &items[..0], &sound[..n], number, cells)
-}
-
-// In a log of few lines: 32 KiB of words, and 2 for the sound lines.
-fn show_small(
-    rows: &[usize; TABLE],
-    log: &[u8],
-    width: usize,
-    number: usize,
-    cells: &mut [u32],
-) -> usize
-    requires { (length rows.now ≡ 160) × (width ≡ width_of log.now) × (width ≤ 128) }
-    ensures { TableShown rows.now log.now number cells.old result cells.new }
-{
-    let mut words = [0u64; FEW_WORDS];
-    let mut sound = [0u64; FEW_SOUND];
-    show_with(
-        rows,
-        log,
-        width,
-        &mut words[..],
-        &mut sound[..],
-        number,
-        cells,
-    )
-}
-
-// In one of any number of lines: 240 KiB of words, and 15 for the sound lines.
-fn show_large(
-    rows: &[usize; TABLE],
-    log: &[u8],
-    width: usize,
-    number: usize,
-    cells: &mut [u32],
-) -> usize
-    requires { (length rows.now ≡ 160) × (width ≡ width_of log.now) × (width ≤ 960) }
-    ensures { TableShown rows.now log.now number cells.old result cells.new }
-{
-    let mut words = [0u64; WORDS];
-    let mut sound = [0u64; SOUND];
-    show_with(
-        rows,
-        log,
-        width,
-        &mut words[..],
-        &mut sound[..],
-        number,
-        cells,
-    )
-}
-
 // In any log that is not too long.
-fn show_in(rows: &[usize; TABLE], log: &[u8], number: usize, cells: &mut [u32]) -> usize
-    requires { (length rows.now ≡ 160) × (length log.now ≤ 61440) }
+fn show_in(rows: &Nodes, log: &[u8], number: usize, cells: &mut [u32]) -> usize
+    requires { (length rows.now ≡ 32) × (length log.now ≤ 61440) }
     ensures { TableShown rows.now log.now number cells.old result cells.new }
 {
-    let width = plan::width(log);
-    if width <= FEW {
-        return show_small(rows, log, width, number, cells);
-    }
-    show_large(rows, log, width, number, cells)
+    with_marks(rows, log, cells, |searched, cells|
+        requires { Good (source_of searched.now) searched.now.rows.now }
+        ensures { AnswerShown (source_of searched.now) searched.now.rows.now rows.entry.now number cells.old result cells.new }
+    {
+        show_answer(rows, searched, number, cells)
+    })
 }
 
 // Writes the nodes that took part in answer number `number` (the first is 0) of a pattern in a log, in node order, each as node, start, end, as many as whole
 // triples fit. Past the last answer, and refused: nothing is written.
-pub fn show(text: &[u8], log: &[u8], number: usize, cells: &mut [u32]) -> Reply
-    ensures value { result ≡ witnessing text.now log.now number cells.old }
+pub fn show(text: &[u8], log: &[u8], number: usize, cells: &mut [u32]) -> Result<usize, Refusal>
+    ensures value { reply result ≡ witnessing text.now log.now number cells.old }
     ensures cells_after { cells.new ≡ filled_shown (shown_in text.now log.now number) cells.old }
 {
-    let r = read_both(text, log);
-    let refused = r.number;
-    if refused != 0 {
-        return Reply {
-            number: refused,
-            place: r.place,
-            count: 0,
-        };
-    }
-    let rows = r.rows;
-    let count = show_in(&rows, log, number, cells);
-    Reply {
-        number: 0,
-        place: 0,
-        count,
-    }
+    let rows = read_both(text, log)?;
+    Ok(show_in(&rows, log, number, cells))
 }

@@ -1,11 +1,12 @@
 -- `finder_c::finder_fill` meets its contract: the numbers fit their bits, and the rest is what `finder::fill` ensures. Assumes nothing.
 use mathlib.Core.Path.{ap, ◌∙◌}
+use Rattle.meaning.specs.Replies.{fill_reply}
 use Rattle.finder_c.specs.Packing.{packed_fill}
 use Rattle.finder_c.proofs.Small.{filling-small}
 use Rattle.finder_c.proofs.finder_fill.Goals as goal
 
 pub packed-requires : goal.packed-requires
-packed-requires c = filling-small c.args.pattern.now c.args.log.now c.args.from c.args.cells.now c.fill-r.result c.fill-r.ensures.value
+packed-requires c = filling-small c.args.pattern.now c.args.log.now c.args.from c.args.cells.now (fill_reply c.fill-r.result) c.fill-r.ensures.value
 
 pub returns : goal.returns
 returns c = record { value = c.packed.ensures ∙ ap packed_fill c.fill-r.ensures.value; cells_after = c.fill-r.ensures.cells_after }

@@ -2,8 +2,5 @@
 use Rattle.finder_steps.proofs.Taking.{Takes}
 use Rattle.finder_steps.proofs.finder_steps.Given as goal
 
-abbrev pub invariant-loop-room : goal.invariant-loop-room
-invariant-loop-room l = Takes l.pattern l.log l.initial.cells l.cells l.f l.n l.room
-
-abbrev pub decreases-loop-room : goal.decreases-loop-room
-decreases-loop-room l = l.room
+abbrev pub invariant-loop-n : goal.invariant-loop-n
+invariant-loop-n l = Takes l.pattern l.log l.initial.cells l.cells l.f l.n

@@ -1,5 +1,5 @@
 -- Fronts compared and stored, and looks, which are fronts or are passed over. Private contracts cite this. Assumes nothing.
-use Rattle.std.specs.Prelude.{ℕ, ◌+◌, ◌≤◌, ◌<◌, Bool, cond, List, set, leb, ltb}
+use Rattle.std.specs.Prelude.{ℕ, ◌+◌, ◌≤◌, ◌<◌, Bool, cond, set, leb, ltb}
 use Rattle.stretches.specs.declared.Stretch.{Stretch}
 use Rattle.stretches.specs.Stretch.{st}
 use Rattle.seek.specs.declared.state.Kept.{Kept}

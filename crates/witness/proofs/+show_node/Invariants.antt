@@ -1,7 +1,7 @@
 -- The measure: `show_node` calls itself for operands, whose numbers are higher. And what the loop keeps: the operands before c have shown their part. Assumes nothing.
 use Rattle.std.proofs.Common.{◌-◌, ◌<◌}
-use Rattle.seek.specs.Source.{source}
-use Rattle.seek.specs.First.{at_f, Ready}
+use Rattle.seek.specs.Source.{source_of}
+use Rattle.seek.specs.First.{Ready}
 use Rattle.witness.proofs.Showing.{Midway}
 use Rattle.witness.proofs.+show_node.Given as goal
 
@@ -10,7 +10,7 @@ decreases-show_node l = 32 - l.v
 
 abbrev pub invariant-loop-c : goal.invariant-loop-c
 invariant-loop-c l =
-    (l.v < l.c) × Ready (source l.words l.items l.sound) l.table l.st × Midway (source l.words l.items l.sound) l.table l.rows l.v (at_f l.s l.e) l.initial.k l.initial.cells l.each l.chain l.enclosing l.later l.c l.t l.k l.cells
+    (l.v < l.c) × Ready (source_of l.searched) l.searched.rows.now l.st × Midway (source_of l.searched) l.searched.rows.now l.rows l.v l.f l.initial.k l.initial.cells l.each l.chain l.enclosing l.later l.c l.t l.k l.cells
 
 abbrev pub decreases-loop-c : goal.decreases-loop-c
 decreases-loop-c l = 32 - l.c

@@ -1,6 +1,6 @@
 -- `witness::show_in` meets its contract. Assumes nothing.
-use Rattle.plan.proofs.Planning.{short-width}
+use Rattle.witness.proofs.Answering.{marks-shown}
 use Rattle.witness.proofs.show_in.Goals as goal
 
-pub show_large-requires : goal.show_large-requires
-show_large-requires c = (c.requires.0, c.width-width.ensures, short-width c.args.log.now c.width-width.result c.width-width.ensures c.requires.1)
+pub returns : goal.returns
+returns c = let h = c.with_marks.ensures in marks-shown h.3 h.5 h.4 h.6

@@ -1,7 +1,10 @@
 -- `measure`: the invariants `Outer` and `Inner` hold for every tree that the nodes encode.
 -- Assumes nothing.
 use Rattle.std.proofs.Common.{◌≡◌, suc, ◌+◌, ◌-◌, ◌<◌, refl, arith}
-use mathlib.Core.Path.{subst}
+use mathlib.Core.Path.{subst, ◌∙◌}
+use Rattle.std.specs.Ordering.{ord_max, nat_cmp}
+use Rattle.std.proofs.Common.{max}
+use Rattle.std.proofs.lemmas.Bool.Decides.{nat_tests}
 use mathlib.Core.List.{List}
 use Prim.Native.Nat.{ℕ}
 use Rattle.stretches.specs.Table.{node_at}
@@ -13,6 +16,10 @@ use Rattle.pattern.proofs.tree.measure.Goals as goal
 -- the place before which nothing is measured yet, by the node there
 here : {tb : Table} {e : Encodes tb} {v : ℕ} {t : Table} {deep : List ℕ} → Outer tb e v t deep → 0 < v → Outer tb e (suc (v - 1)) t deep
 here {tb} {e} {v} {t} {deep} o h = let z : v ≡ suc (v - 1) = omega arith in subst (λ x. Outer tb e x t deep) z o
+
+-- the library's maximum is the greater of two
+greater : (a b : ℕ) → ord_max nat_cmp a b ≡ max a b
+greater a b = grind (arith, nat_tests)
 
 pub loop-w-init : goal.loop-w-init
 loop-w-init c = λ e. outer-begin c.args.table.now e
@@ -49,8 +56,8 @@ loop-seen-preserved c = let t = c.args.table.now in
     let z = c.requires in
     let l = c.loop-w in
     let i = c.loop-seen in
-    let b = inner-bounds t z (suc (l.w - 1)) (l.w - 1) (i.c + (node_at l.table.rows i.c).size) c.longer-d.result (i._seen + 1) _ (inner-turn t z _ _ i.c i.d i._seen _ l.table l.depth (here (l.invariant z) c.loop-w-test.true) (i.invariant.3 z) c.loop-seen-test.true c.longer-d.result c.longer-d.ensures) in
-    (b.1, b.2, b.3, λ e. inner-turn t e _ _ i.c i.d i._seen _ l.table l.depth (here (l.invariant e) c.loop-w-test.true) (i.invariant.3 e) c.loop-seen-test.true c.longer-d.result c.longer-d.ensures)
+    let b = inner-bounds t z (suc (l.w - 1)) (l.w - 1) (i.c + (node_at l.table.rows i.c).size) c.max-d.result (i._seen + 1) _ (inner-turn t z _ _ i.c i.d i._seen _ l.table l.depth (here (l.invariant z) c.loop-w-test.true) (i.invariant.3 z) c.loop-seen-test.true c.max-d.result (c.max-d.ensures ∙ greater _ _)) in
+    (b.1, b.2, b.3, λ e. inner-turn t e _ _ i.c i.d i._seen _ l.table l.depth (here (l.invariant e) c.loop-w-test.true) (i.invariant.3 e) c.loop-seen-test.true c.max-d.result (c.max-d.ensures ∙ greater _ _))
 
 pub loop-w-preserved : goal.loop-w-preserved
 loop-w-preserved c = let t = c.args.table.now in

@@ -2,39 +2,53 @@
 use borrow.Author.Rules.{rules}
 use native.Mathlib.Omega.{arith}
 use Rattle.seek.proofs.Turns.{or-start, or_turn, or-end, span-start, span-turn, span-gone, span-end, chain-gone, chain-start, chain-turn, chain-stop, chain-break, chain-end, test-max, test-alone, test-holder, test-inner, filter-gone, filter-done, look_none}
-use mathlib.Core.Path.{sym, ◌∙◌, refl}
+use mathlib.Core.Path.{◌≡◌, sym, subst, ◌∙◌, refl}
+use mathlib.Core.List.{List}
+use Prim.Native.Nat.{ℕ, ◌+◌}
+use Rattle.stretches.specs.declared.Node.{Node}
+use Rattle.stretches.specs.Table.{next_of}
+use Rattle.nodes.specs.declared.Operands.{Operands}
+use Rattle.nodes.specs.Among.{Among}
+use Rattle.nodes.proofs.Operand.{given, all_given, first_given}
 use Rattle.seek.proofs.Reaching.{reach-start, reach_here, reach-gone, reach-turn, reach-out}
 use Rattle.stretches.proofs.Table.{stop-most}
-use Rattle.seek.proofs.Shapes.{no-chain}
 use Rattle.seek.proofs.Searches.{advance-start, advance-last, advance-good, advance-back, advance-turn, advance-out}
-use mathlib.Core.Logic.{inl, inr, ⊎_elim}
+use mathlib.Core.Logic.{inl, inr}
 use Rattle.seek.proofs.Keeping.{by_row_lem, by-list, by-none, stored, served}
 use Rattle.seek.proofs.Searched.+searching.Goals as goal
+
+-- what the call of `operands_of` gives
+abbrev Begun : List Node → ℕ → Operands → Type 0
+Begun rows v s = Among rows v s × (s.at ≡ v + 1)
+
+-- behind the first operand
+abbrev Behind : List Node → ℕ → Operands → Type 0
+Behind rows v s = Among rows v s × (s.at ≡ next_of rows (v + 1))
 
 -- ── `seek_or` ──
 
 pub seek_or-loop-c-init : goal.seek_or-loop-c-init
-seek_or-loop-c-init t c = (or-start (omega (arith, c.requires)) refl, omega arith)
+seek_or-loop-c-init t c = let o = subst (Begun c.args.self.now.rows.now c.args.v) (sym c.into_iter-c-iterator.ensures.into_iter_gives) c.operands_of-c-items.ensures in (o.0, or-start (omega (arith, c.requires)) o.1)
 
 pub seek_or-loop-c-preserved : goal.seek_or-loop-c-preserved
-seek_or-loop-c-preserved t c = (or_turn (omega (arith, c.requires)) c.loop-c.invariant.0 (omega (arith, c.stop_of-stop.ensures.value)) c.seek-f.ensures c.better-best.ensures c.next_of-c.ensures.value, omega (arith, c.next_of-c.ensures.lower_bound.0 (omega arith)))
+seek_or-loop-c-preserved t c = let o = given c.loop-c.invariant.0 c.in-Some.ensures.steps in (o.among, or_turn (omega (arith, c.requires)) c.loop-c.invariant.1 o c.seek.ensures c.better-best.ensures)
 
 pub seek_or-returns : goal.seek_or-returns
-seek_or-returns t c = λ k. or-end c.loop-c.invariant.0 (omega (arith, c.stop_of-stop.ensures.value)) k
+seek_or-returns t c = λ k. or-end c.loop-c.invariant.1 (all_given c.loop-c.invariant.0 c.in-None.ensures.steps) k
 
 -- ── `span` ──
 
 pub span-loop-c-init : goal.span-loop-c-init
-span-loop-c-init t c = (span-start c.requires.0 c.requires.1, omega arith)
+span-loop-c-init t c = let o = subst (Begun c.args.self.now.rows.now c.args.v) (sym c.into_iter-c-iterator.ensures.into_iter_gives) c.operands_of-c-items.ensures in (o.0, span-start c.requires.0 c.requires.1 o.1)
 
 pub span-returns-then-f-ge-NONE : goal.span-returns-then-f-ge-NONE
-span-returns-then-f-ge-NONE t c = λ k. span-gone c.requires.0 c.loop-c.invariant.0 (omega (arith, c.stop_of-stop.ensures.value)) c.seek-f.ensures c.if-f-ge-NONE.true refl k
+span-returns-then-f-ge-NONE t c = λ k. span-gone c.requires.0 c.loop-c.invariant.1 (given c.loop-c.invariant.0 c.in-Some.ensures.steps) c.seek-f.ensures c.if-f-ge-NONE.true refl k
 
 pub span-loop-c-preserved : goal.span-loop-c-preserved
-span-loop-c-preserved t c = (span-turn c.requires.0 c.loop-c.invariant.0 (omega (arith, c.stop_of-stop.ensures.value)) c.seek-f.ensures c.if-f-ge-NONE.false c.min-s.ensures c.max-e.ensures c.next_of-c.ensures.value, omega (arith, c.next_of-c.ensures.lower_bound.0 (omega arith)))
+span-loop-c-preserved t c = let o = given c.loop-c.invariant.0 c.in-Some.ensures.steps in (o.among, span-turn c.requires.0 c.loop-c.invariant.1 o c.seek-f.ensures c.if-f-ge-NONE.false c.min-s.ensures c.max-e.ensures)
 
 pub span-returns : goal.span-returns
-span-returns t c = λ k. span-end c.loop-c.invariant.0 (omega (arith, c.stop_of-stop.ensures.value)) refl k
+span-returns t c = λ k. span-end c.loop-c.invariant.1 (all_given c.loop-c.invariant.0 c.in-None.ensures.steps) refl k
 
 -- ── `chain` ──
 
@@ -42,19 +56,22 @@ pub chain-returns-then-a-ge-NONE : goal.chain-returns-then-a-ge-NONE
 chain-returns-then-a-ge-NONE t c = λ k. chain-gone c.requires.0 c.requires.1 c.seek-a.ensures c.if-a-ge-NONE.true refl k
 
 pub chain-loop-c-init : goal.chain-loop-c-init
-chain-loop-c-init t c = (chain-start c.next_of-c.ensures.value, omega (arith, c.next_of-c.ensures.lower_bound.0 (omega arith)))
+chain-loop-c-init t c =
+    let h = first_given c.next.result c.operands_of-rest.ensures.0 c.operands_of-rest.ensures.1 c.requires.1 c.next.ensures.steps in
+    let o = subst (Behind c.args.self.now.rows.now c.args.v) (sym c.into_iter-c-iterator.ensures.into_iter_gives) h in
+    (o.0, chain-start o.1)
 
 pub chain-returns-then-f-ge-NONE : goal.chain-returns-then-f-ge-NONE
-chain-returns-then-f-ge-NONE t c = λ k. chain-stop c.requires.0 c.requires.1 c.seek-a.ensures c.if-a-ge-NONE.false c.loop-c.invariant.0 k (omega (arith, c.stop_of-stop.ensures.value)) c.past-to.ensures c.seek-f.ensures c.if-f-ge-NONE.true refl
+chain-returns-then-f-ge-NONE t c = λ k. chain-stop c.requires.0 c.requires.1 c.seek-a.ensures c.if-a-ge-NONE.false c.loop-c.invariant.1 k (given c.loop-c.invariant.0 c.in-Some.ensures.steps) c.past-to.ensures c.seek-f.ensures c.if-f-ge-NONE.true refl
 
 pub chain-returns-then-breaks : goal.chain-returns-then-breaks
-chain-returns-then-breaks t c = λ k. chain-break c.requires.0 c.requires.1 c.seek-a.ensures c.if-a-ge-NONE.false c.loop-c.invariant.0 k (omega (arith, c.stop_of-stop.ensures.value)) c.past-to.ensures c.seek-f.ensures c.if-f-ge-NONE.false (sym c.breaks.ensures ∙ c.if-breaks.true) refl
+chain-returns-then-breaks t c = λ k. chain-break c.requires.0 c.requires.1 c.seek-a.ensures c.if-a-ge-NONE.false c.loop-c.invariant.1 k (given c.loop-c.invariant.0 c.in-Some.ensures.steps) c.past-to.ensures c.seek-f.ensures c.if-f-ge-NONE.false (sym c.breaks.ensures ∙ c.if-breaks.true) refl
 
 pub chain-loop-c-preserved : goal.chain-loop-c-preserved
-chain-loop-c-preserved t c = (chain-turn c.requires.0 c.loop-c.invariant.0 (omega (arith, c.stop_of-stop.ensures.value)) c.past-to.ensures c.seek-f.ensures c.if-f-ge-NONE.false (sym c.breaks.ensures ∙ c.if-breaks.false) c.next_of-c-in-loop-c.ensures.value, omega (arith, c.next_of-c-in-loop-c.ensures.lower_bound.0 (omega arith)))
+chain-loop-c-preserved t c = let o = given c.loop-c.invariant.0 c.in-Some.ensures.steps in (o.among, chain-turn c.requires.0 c.loop-c.invariant.1 o c.past-to.ensures c.seek-f.ensures c.if-f-ge-NONE.false (sym c.breaks.ensures ∙ c.if-breaks.false))
 
 pub chain-returns : goal.chain-returns
-chain-returns t c = λ k. chain-end c.requires.0 c.requires.1 c.seek-a.ensures c.if-a-ge-NONE.false c.loop-c.invariant.0 k (omega (arith, c.stop_of-stop.ensures.value)) refl
+chain-returns t c = λ k. chain-end c.requires.0 c.requires.1 c.seek-a.ensures c.if-a-ge-NONE.false c.loop-c.invariant.1 k (all_given c.loop-c.invariant.0 c.in-None.ensures.steps) refl
 
 -- ── `reach` ──
 

@@ -1,5 +1,6 @@
 -- The measures of the cycle of calls: a node seeks its operands, whose numbers are higher than its own, and within a node the calls go down. And what the loops keep. Assumes nothing.
-use Prim.Native.Nat.{◌<◌, ◌-◌}
+use Prim.Native.Nat.{◌-◌}
+use Rattle.nodes.specs.Among.{Among}
 use Rattle.seek.specs.Source.{source_of}
 use Rattle.seek.proofs.Turns.{OrInv, SpanInv, ChainInv}
 use Rattle.seek.proofs.Reaching.{ReachInv}
@@ -41,22 +42,13 @@ abbrev pub decreases-span : goal.decreases-span
 decreases-span l = 9 * (32 - l.v) + 2
 
 abbrev pub invariant-seek_or-loop-c : goal.invariant-seek_or-loop-c
-invariant-seek_or-loop-c l = OrInv (source_of l.self) l.self.rows.now l.initial.st l.v l.t l.st l.c l.best × (l.v < l.c)
-
-abbrev pub decreases-seek_or-loop-c : goal.decreases-seek_or-loop-c
-decreases-seek_or-loop-c l = 32 - l.c
+invariant-seek_or-loop-c l = Among l.self.rows.now l.v l.c-iterator × OrInv (source_of l.self) l.self.rows.now l.initial.st l.v l.t l.st l.c-iterator.at l.best
 
 abbrev pub invariant-span-loop-c : goal.invariant-span-loop-c
-invariant-span-loop-c l = SpanInv (source_of l.self) l.self.rows.now l.initial.st l.v l.t l.st l.s l.e l.c × (l.v < l.c)
-
-abbrev pub decreases-span-loop-c : goal.decreases-span-loop-c
-decreases-span-loop-c l = 32 - l.c
+invariant-span-loop-c l = Among l.self.rows.now l.v l.c-iterator × SpanInv (source_of l.self) l.self.rows.now l.initial.st l.v l.t l.st l.s l.e l.c-iterator.at
 
 abbrev pub invariant-chain-loop-c : goal.invariant-chain-loop-c
-invariant-chain-loop-c l = ChainInv (source_of l.self) l.self.rows.now l.initial.st l.v l.t l.a.start l.initial.e l.st l.e l.c × (l.v < l.c)
-
-abbrev pub decreases-chain-loop-c : goal.decreases-chain-loop-c
-decreases-chain-loop-c l = 32 - l.c
+invariant-chain-loop-c l = Among l.self.rows.now l.v l.c-iterator × ChainInv (source_of l.self) l.self.rows.now l.initial.st l.v l.t l.a.start l.initial.e l.st l.e l.c-iterator.at
 
 abbrev pub invariant-reach-loop-from : goal.invariant-reach-loop-from
 invariant-reach-loop-from l = ReachInv (source_of l.self) l.self.rows.now l.initial.st l.v l.e l.st l.from

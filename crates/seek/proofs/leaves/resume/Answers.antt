@@ -1,6 +1,6 @@
 -- `seek::leaves::resume` meets its contract. Assumes nothing.
 use native.Mathlib.Omega.{arith}
-use Rattle.seek.proofs.LeafLaws.{resume-none, resume-at}
+use Rattle.seek.proofs.LeafLaws.{resume-at}
 use Rattle.seek.proofs.leaves.resume.Goals as goal
 
 pub returns : goal.returns
