@@ -20,7 +20,7 @@ use Rattle.stretches.specs.inner.Operands.{operands_of}
 use Rattle.stretches.proofs.Table.{list-node, same_lists}
 use Rattle.marks.specs.Row.{row}
 use Rattle.seek.specs.Source.{source, lent, own_list, given, list_over, Good}
-use Rattle.folding.specs.Fold.{with_leaf}
+use Rattle.folding.specs.Fold.{made_row, with_leaf}
 use Rattle.seek.proofs.Nodes.{fine}
 
 -- a table whose rows of marks end at or before place free
@@ -42,7 +42,7 @@ module _ (rows : List Node) (v at width : ℕ) (wide : length rows ≡ 32) (lv :
   unfolding with_leaf
   leaf-wide = length-set rows v _ ∙ wide
 
-  pub leaf-node : node_at rows' v ≡ record { kind = 16; size = size_at rows v; first = at; second = width; third = third_at rows v }
+  pub leaf-node : node_at rows' v ≡ made_row at width (node_at rows v)
   unfolding with_leaf
   leaf-node = get_or-set_same rows v _ no_node (omega arith)
 

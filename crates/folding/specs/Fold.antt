@@ -2,7 +2,7 @@
 use Rattle.std.specs.Prelude.{ℕ, zero, suc, ◌+◌, ◌-◌, Bool, true, cond, ◌&&◌, List, [], ◌∷◌, map, length, set, leb, ltb, eqb}
 use Rattle.stretches.specs.Stretch.{any_of}
 use Rattle.stretches.specs.declared.Node.{Node}
-use Rattle.stretches.specs.Table.{node_at, kind_at, size_at, first_at, third_at, stop_of, operand_numbers}
+use Rattle.stretches.specs.Table.{node_at, kind_at, first_at, stop_of, operand_numbers}
 use Rattle.marks.specs.Row.{lies, row, with_row}
 
 -- a table and its words, and the place behind the last row in use
@@ -29,9 +29,13 @@ unfoldable pub rows_before : List Node → ℕ → ℕ → List ℕ → Bool
 rows_before rows width free [] = true
 rows_before rows width free (c ∷ cs) = row_before rows width free c && rows_before rows width free cs
 
+-- a node made the row of width words from place at on
+abbrev pub made_row : ℕ → ℕ → Node → Node
+made_row at width n = record { kind = 16; size = n.size; first = at; second = width; third = n.third }
+
 -- the table with node v made the row of width words from place at on
 unfoldable pub with_leaf : List Node → ℕ → ℕ → ℕ → List Node
-with_leaf rows v at width = set rows v (record { kind = 16; size = size_at rows v; first = at; second = width; third = third_at rows v })
+with_leaf rows v at width = set rows v (made_row at width (node_at rows v))
 
 -- ── Node by node ──
 

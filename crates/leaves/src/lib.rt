@@ -74,7 +74,8 @@ impl Leaves {
 
     // The number of the leaf; none where it is not among them.
     pub fn find(&self, leaf: Leaf) -> Option<usize>
-        ensures { result ≡ position (λ x. same_leaf x leaf) self.now }
+        ensures number { result ≡ position (λ x. same_leaf x leaf) self.now }
+        ensures few { length self.now ≤ 64 }
     {
         self.as_slice().iter().position(|x| *x == leaf)
     }

@@ -8,74 +8,26 @@
 // are (at most 32); then these items, and for each list where in the items it ends.
 #![tactic(auto)]
 
-use basics::wide;
 use input::read_whole;
 use std::io;
-
-fn put(rt: &impl Print, b: u8) -> io::Result<()> {
-    rt.write_all(&[b])
-}
-
-// A comma and a number.
-fn show(rt: &impl Print, n: usize) -> io::Result<()> {
-    put(rt, b',')?;
-    rt.print(n)
-}
-
-fn flag(b: bool) -> usize {
-    if b { 1 } else { 0 }
-}
-
-// All numbers, and a line feed.
-fn show_all(rt: &impl Print, s: &[u32]) -> io::Result<()> {
-    let mut i: usize = 0;
-    while i < s.len() {
-        show(rt, wide(s[i]))?;
-        i += 1;
-    }
-    put(rt, b'\n')
-}
-
-// The line of a call.
-fn line(
-    rt: &impl Print,
-    letter: u8,
-    a: usize,
-    b: usize,
-    c: usize,
-    d: usize,
-    cells: &[u32],
-) -> io::Result<()> {
-    put(rt, letter)?;
-    show(rt, a)?;
-    show(rt, b)?;
-    show(rt, c)?;
-    show(rt, d)?;
-    show_all(rt, cells)
-}
 
 // A number with one more digit, the greatest where that is too great.
 fn longer(n: usize, digit: u8) -> usize {
     if 1844674407370955160 < n {
-        return 18446744073709551615;
+        return usize::MAX;
     }
-    n * 10 + (digit % 10) as usize
+    n * 10 + usize::from(digit % 10)
 }
 
-// The number at a place, which moves behind the byte after the number.
-fn next(input: &[u8], at: &mut usize) -> usize {
+// The number at the start of the input, which goes on behind the byte after the number.
+fn next(input: &mut &[u8]) -> usize {
+    let end = input.iter().position(|b| *b < b'0').unwrap_or(input.len());
+    let digits = &input[..end];
+    *input = input.get(end + 1..).unwrap_or(&[]);
     let mut n = 0;
-    let mut i = *at;
-    while i < input.len() {
-        let b = input[i];
-        i += 1;
-        if b < 48 {
-            *at = i;
-            return n;
-        }
-        n = longer(n, b - 48);
+    for b in digits {
+        n = longer(n, b.saturating_sub(b'0'));
     }
-    *at = i;
     n
 }
 
@@ -83,118 +35,63 @@ fn small(n: usize) -> u32 {
     (n % 4294967296) as u32
 }
 
-// What a line has before its lists; all: how many numbers the items and the ends are.
-#[derive(Clone, Copy)]
-struct Head {
-    taking: usize,
-    op: u32,
-    k: u32,
-    lent: usize,
-    number: usize,
-    items: usize,
-    all: usize,
-}
-
-fn read_head(input: &[u8], at: &mut usize) -> Head {
-    let taking = next(input, at);
-    let op = small(next(input, at));
-    let k = small(next(input, at));
-    let lent = next(input, at);
-    let number = next(input, at);
-    let items = next(input, at) % 65;
-    let lists = next(input, at) % 33;
-    Head {
-        taking,
-        op,
-        k,
-        lent,
-        number,
-        items,
-        all: items + lists,
+// Makes the call at the start of the input. One that lends more cells than there are is not made.
+fn call(rt: &impl Print, input: &mut &[u8]) -> io::Result<()> {
+    let mut head = [0usize; 7];
+    for n in &mut head {
+        *n = next(input);
     }
-}
-
-// Reads n numbers, as far as there is room.
-fn numbers(input: &[u8], at: &mut usize, into: &mut [u32], n: usize) {
-    let mut i = 0;
-    while i < into.len() {
-        if n <= i {
-            return;
-        }
-        into[i] = small(next(input, at));
-        i += 1;
+    let [taking, op, k, room, number, items, lists] = head;
+    let (op, k) = (small(op), small(k));
+    let (items, lists) = (items % 65, lists % 33);
+    let mut list = [0u32; 96];
+    let used = &mut list[..items + lists];
+    for n in used.iter_mut() {
+        *n = small(next(input));
     }
-}
-
-// The numbers from one place to another; none where there are fewer.
-fn part(s: &[u32], from: usize, to: usize) -> &[u32] {
-    if to < from {
-        return &s[..0];
-    }
-    if s.len() < to {
-        return &s[..0];
-    }
-    &s[from..to]
-}
-
-// Makes a call with the cells from one place to another.
-fn make(
-    rt: &impl Print,
-    h: Head,
-    items: &[u32],
-    ends: &[u32],
-    cells: &mut [u32],
-    from: usize,
-    to: usize,
-) -> io::Result<()> {
-    if to < from {
+    let (items, ends) = used.split_at(items);
+    let mut cells = [7u32; 32];
+    let Some(lent) = cells.get_mut(..room) else {
         return Ok(());
-    }
-    if cells.len() < to {
-        return Ok(());
-    }
-    let lent = &mut cells[from..to];
-    if h.taking == 0 {
-        match lists::fill(h.op, h.k, items, ends, lent, h.number) {
-            Ok(r) => line(rt, b'F', 0, 0, r.count, flag(r.more), lent),
-            Err(e) => line(rt, b'F', e.number(), e.place(), 0, 0, lent),
+    };
+    if taking == 0 {
+        match lists::fill(op, k, items, ends, lent, number) {
+            Ok(filled) => {
+                let (count, more) = (filled.count, u8::from(filled.more));
+                print!(rt; "F,0,0,{count},{more}")?;
+            }
+            Err(refusal) => {
+                let (number, place) = (refusal.number(), refusal.place());
+                print!(rt; "F,{number},{place},0,0")?;
+            }
         }
     } else {
-        match taking::take(h.op, items, ends, lent, h.number) {
-            Ok(Some(x)) => line(rt, b'T', 0, 1, wide(x.start), wide(x.end), lent),
-            Ok(None) => line(rt, b'T', 0, 0, 0, 0, lent),
-            Err(e) => line(rt, b'T', e.number(), 0, 0, 0, lent),
+        match taking::take(op, items, ends, lent, number) {
+            Ok(Some(x)) => {
+                let (start, end) = (x.start, x.end);
+                print!(rt; "T,0,1,{start},{end}")?;
+            }
+            Ok(None) => print!(rt; "T,0,0,0,0")?,
+            Err(refusal) => {
+                let number = refusal.number();
+                print!(rt; "T,{number},0,0,0")?;
+            }
         }
     }
+    for cell in lent.iter() {
+        print!(rt; ",{cell}")?;
+    }
+    println!(rt)
 }
 
-// Makes the call on the line at a place.
-fn call(rt: &impl Print, input: &[u8], at: &mut usize) -> io::Result<()> {
-    let h = read_head(input, at);
-    let mut list = [0u32; 96];
-    numbers(input, at, &mut list, h.all);
-    let mut cells = [7u32; 32];
-    make(
-        rt,
-        h,
-        part(&list, 0, h.items),
-        part(&list, h.items, h.all),
-        &mut cells,
-        0,
-        h.lent,
-    )
-}
-
-// Every line: as many as there are bytes at most.
+// Every call: as many as there are bytes at most.
 fn calls(rt: &impl Print, input: &[u8]) -> io::Result<()> {
-    let mut at = 0;
-    let mut k = 0;
-    while k < input.len() {
-        if input.len() <= at {
+    let mut left = input;
+    for _ in 0..input.len() {
+        if left.is_empty() {
             return Ok(());
         }
-        call(rt, input, &mut at)?;
-        k += 1;
+        call(rt, &mut left)?;
     }
     Ok(())
 }

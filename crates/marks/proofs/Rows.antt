@@ -32,12 +32,9 @@ pub record Within (words : List ℕ) (at width : ℕ) : Type 0 where
 pub let-in : (words : List ℕ) (at width : ℕ) → lies (length words) at width ≡ true → Within words at width
 let-in words at width h = let k = lies-true (length words) at width h in record { inside = h; ends = k.0; few = k.1 }
 
--- a test's result, where the code goes on past `if !r`, and where it does not
-pub said-yes : {r b : Bool} → r ≡ b → r ≡ true → b ≡ true
-said-yes e h = sym e ∙ h
-
-pub said-no : {r b : Bool} → r ≡ b → r ≡ false → b ≡ false
-said-no e h = sym e ∙ h
+-- what a test told, by what the code did with it
+pub said : {r b t : Bool} → r ≡ b → r ≡ t → b ≡ t
+said e h = sym e ∙ h
 
 -- ── Its words and lines ──
 

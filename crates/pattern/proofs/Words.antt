@@ -2,18 +2,20 @@
 -- Assumes nothing.
 use Prim.Native.Nat.{ℕ, zero, suc, ◌+◌, ◌≤◌, ◌<◌}
 use mathlib.Core.Path.{◌≡◌, refl, sym, ap, ap₂, ◌∙◌}
-use mathlib.Core.Bool.{Bool, true, false, ◌&&◌}
+use mathlib.Core.Bool.{Bool, true, false}
 use mathlib.Core.Logic.{◌⊎◌, inl, inr}
 use mathlib.Core.List.{List, [], ◌∷◌, ◌++◌}
 use lib.Dec.{eqb}
 use lib.ListN.{length, take, drop, take-append-drop}
 use lib.Seq.{take-suc, take_all}
-use borrow.Author.Tests.{eqb-true, eq-eqb, ne_eqb}
+use borrow.Author.Tests.{eqb-true, eq-eqb}
 use native.Mathlib.Numerals.{add-one}
+use borrow.Author.Count.{below_more}
 use native.Mathlib.Omega.{arith}
 use Rattle.pattern.specs.Kinds.{Kind, kinds, kind_in, kind_by}
 use Rattle.pattern.specs.Automaton.{letter_at, alike, continues, next}
-use Rattle.basics.proofs.Basics.{and-true, and-false, le-or-lt, get_d_past}
+use Rattle.std.specs.Prelude.{IsTrue, ◌↔◌}
+use Rattle.basics.proofs.Basics.{and-true, true-and, le-or-lt, get_d_past}
 use Rattle.pattern.proofs.KindLaws.{find-found, letter-plain, word_of, fair}
 
 -- the first m letters of a row's word
@@ -42,17 +44,25 @@ alike-take r (suc m) w h e =
     let p = and-true (alike m (kind_in r).word w) (eqb (letter_at (kind_in r).word m) (letter_at w m)) e in
     one_more r m w (omega arith) (alike-take r m w (omega arith) p.0).1 (eqb-true (letter_at (kind_in r).word m) (letter_at w m) p.1) (le-or-lt (length w) m)
 
--- one letter less of two words that differ there
-pub alike-not : (i j : ℕ) (v w : List ℕ) → i ≡ suc j → (letter_at v j ≡ letter_at w j → ⊥) → false ≡ alike i v w
-alike-not i j v w e n = sym (ap (λ (x : ℕ). alike x v w) e ∙ and-false (alike j v w) (eqb (letter_at v j) (letter_at w j)) (ne_eqb (letter_at v j) (letter_at w j) n))
+-- and such words agree in each of them
+alike-letters : (m : ℕ) (v w : List ℕ) → alike m v w ≡ true → (i : ℕ) → i < m → letter_at v i ≡ letter_at w i
+alike-letters zero v w e = λ i h. absurd (omega arith)
+alike-letters (suc m) v w e =
+    let p = and-true (alike m v w) (eqb (letter_at v m) (letter_at w m)) e in
+    λ i h. below_more (λ i. letter_at v i ≡ letter_at w i) m (alike-letters m v w p.0) (eqb-true (letter_at v m) (letter_at w m) p.1) i (omega arith)
 
--- and that agree
-pub alike-less : (i j : ℕ) (v w : List ℕ) → i ≡ suc j → letter_at v j ≡ letter_at w j → alike i v w ≡ alike j v w
-alike-less i j v w e q = ap (λ (x : ℕ). alike x v w) e ∙ (ap (λ (t : Bool). alike j v w && t) (eq-eqb (letter_at v j) (letter_at w j) q) ∙ unit (alike j v w))
+letters-alike : (m : ℕ) (v w : List ℕ) → ((i : ℕ) → i < m → letter_at v i ≡ letter_at w i) → alike m v w ≡ true
+letters-alike zero v w f = refl
+letters-alike (suc m) v w f = true-and (alike m v w) (eqb (letter_at v m) (letter_at w m)) (letters-alike m v w (λ i h. f i (omega arith))) (eq-eqb (letter_at v m) (letter_at w m) (f m (omega arith)))
+
+-- so a test of each letter is a test of the words
+pub alike-is : (b : Bool) (m : ℕ) (v w : List ℕ) → (IsTrue b ↔ ((i : ℕ) → i < m → letter_at v i ≡ letter_at w i)) → b ≡ alike m v w
+alike-is b m v w h = same b (alike m v w) (λ e. letters-alike m v w (h.0 e)) (λ e. h.1 (alike-letters m v w e))
   where
-    unit : (t : Bool) → t && true ≡ t
-    unit true = refl
-    unit false = refl
+    same : (b c : Bool) → (b ≡ true → c ≡ true) → (c ≡ true → b ≡ true) → b ≡ c
+    same true c f g = sym (f refl)
+    same false true f g = g refl
+    same false false f g = refl
 
 -- the row that a byte leads to
 record Led (r m b j : ℕ) : Type 0 where

@@ -2,4 +2,3 @@
 -- Assumes nothing.
 pub mod Scanner
 pub mod Nodes
-pub mod Shapes

@@ -35,10 +35,11 @@ fn entries(rt: &impl Print, text: &[u8]) -> io::Result<()> {
     Ok(())
 }
 
-// Every pattern, of the last one the table.
+// Every pattern, of the last one the table: the last is that behind whose semicolon at most one byte stands, or that has none.
 fn patterns(rt: &impl Print, input: &[u8]) -> io::Result<()> {
-    let mut left = input;
-    while let Some(to) = left.iter().position(|b| *b == b';') {
+    let mut left = if input.len() < 2 { &[] } else { input };
+    while !left.is_empty() {
+        let to = left.iter().position(|b| *b == b';').unwrap_or(left.len());
         let text = &left[..to];
         left = left.get(to + 2..).unwrap_or(&[]);
         if left.is_empty() {

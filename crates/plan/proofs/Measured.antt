@@ -1,16 +1,18 @@
 -- What `max` measures over a prepared table: the sound lines, by their row, which is there where a node is a `max`. Assumes nothing.
-use Prim.Native.Nat.{ℕ, zero, suc, ◌+◌, ◌*◌, ◌≤◌, ◌<◌}
+use Prim.Native.Nat.{ℕ, ◌+◌, ◌*◌, ◌≤◌, ◌<◌}
 use mathlib.Core.Path.{◌≡◌, refl, sym, ap, ap₂, ◌∙◌}
 use mathlib.Core.Logic.{◌⊎◌, inl, inr}
-use mathlib.Core.Bool.{Bool, true, false, cond, ◌||◌}
+use mathlib.Core.Bool.{Bool, true, false, cond, ◌&&◌}
 use mathlib.Core.List.{List, map}
 use native.Mathlib.Omega.{arith}
 use lib.ListN.{length, length-map}
 use lib.Dec.{eqb}
-use borrow.Author.Tests.{le-leb, lt-leb, eq-eqb, ne_eqb}
-use Rattle.basics.proofs.Basics.{true-or-false, or_left, or_right, le-or-lt}
+use borrow.Author.Tests.{le-leb, eq-eqb}
+use Rattle.basics.proofs.Basics.{true-or-false, le-or-lt}
 use Rattle.stretches.specs.Stretch.{st}
-use Rattle.stretches.specs.Table.{kind_at}
+use Rattle.stretches.specs.declared.Node.{Node}
+use Rattle.stretches.specs.Table.{no_node, kind_at}
+use Rattle.std.proofs.lemmas.List.Folds.{list_any_at}
 use Rattle.stretches.proofs.Measures.{Measures}
 use Rattle.marks.proofs.Counts.{count-lines}
 use Rattle.ranks.specs.Rank.{ranked}
@@ -23,36 +25,18 @@ use Rattle.seek.proofs.Measuring.{measured-row, measured-length}
 use Rattle.folding.proofs.FoldLaws.{Single}
 use Rattle.marking.specs.Rows.{sound_marked}
 use Rattle.marking.proofs.SoundRow.{sound-length, sound-whole}
-use Rattle.plan.specs.Plan.{max_to, has_max, sound_words}
+use Rattle.plan.specs.Plan.{has_max, sound_words}
 
--- a `max` among the first m nodes; none among none; and none where none was, and the next is none
-pub max_none : (rows : List ℕ) → max_to rows 0 ≡ false
-unfolding max_to
-max_none rows = refl
-
-pub max-not : (rows : List ℕ) (m : ℕ) → max_to rows m ≡ false → (kind_at rows m ≡ 6 → ⊥) → max_to rows (m + 1) ≡ false
-unfolding max_to
-max-not rows m h n = let z : m + 1 ≡ suc m = omega arith in ap (max_to rows) z ∙ ap₂ (λ a b. a || b) h (ne_eqb (kind_at rows m) 6 n)
-
-pub max-among : (rows : List ℕ) (v m : ℕ) → v < m → kind_at rows v ≡ 6 → max_to rows m ≡ true
-unfolding max_to
-max-among rows v zero h e = absurd (omega arith)
-max-among rows v (suc m) h e = by (λ k. max-among rows v m k e) (le-or-lt m v)
-  where
-    by : (v < m → max_to rows m ≡ true) → (m ≤ v) ⊎ (v < m) → (max_to rows m || eqb (kind_at rows m) 6) ≡ true
-    by on (inl k) = let z : m ≡ v = omega arith in or_right (max_to rows m) (eqb (kind_at rows m) 6) (eq-eqb (kind_at rows m) 6 (ap (kind_at rows) z ∙ e))
-    by on (inr k) = or_left (max_to rows m) (eqb (kind_at rows m) 6) (on k)
+-- one node that is a `max`
+max-among : (rows : List Node) (v : ℕ) → v < length rows → kind_at rows v ≡ 6 → has_max rows ≡ true
+max-among rows v h e = list_any_at (λ n. eqb n.kind 6) rows v no_node h (eq-eqb (kind_at rows v) 6 e)
 
 -- how many words the row of the sound lines has
-module _ (rows : List ℕ) (w : ℕ) where
-  pub sound-too-wide : 1024 < w → 0 ≡ sound_words rows w
-  sound-too-wide h = sym (ap (λ b. cond b (cond (has_max rows) (w + w) 0) 0) (lt-leb w 1024 h))
-
-  pub sound-kept : {b : Bool} → w ≤ 1024 → has_max rows ≡ b → cond b (w + w) 0 ≡ sound_words rows w
-  sound-kept h e = sym (ap₂ (λ a b. cond a (cond b (w + w) 0) 0) (le-leb w 1024 h) e)
+sound-kept : (rows : List Node) (w : ℕ) {b : Bool} → w ≤ 1024 → has_max rows ≡ b → cond b (w + w) 0 ≡ sound_words rows w
+sound-kept rows w h e = sym (ap₂ (λ a b. cond (a && b) (w + w) 0) (le-leb w 1024 h) e)
 
 -- over the words of the sound lines' row
-module _ (rows : List ℕ) (ls : List Line) (w : ℕ) (sound : List ℕ) (narrow : w ≤ 1024) (lines : length ls ≤ 64 * w) (fits : length sound ≡ sound_words rows w) where
+module _ (rows : List Node) (long : length rows ≡ 32) (ls : List Line) (w : ℕ) (sound : List ℕ) (narrow : w ≤ 1024) (lines : length ls ≤ 64 * w) (fits : length sound ≡ sound_words rows w) where
   abbrev row-of-sound : List ℕ
   row-of-sound = sound_marked ls sound
 
@@ -78,7 +62,7 @@ module _ (rows : List ℕ) (ls : List Line) (w : ℕ) (sound : List ℕ) (narrow
   -- what a `max` measures by it is the number of sound lines
   pub sound-measures : (v : ℕ) → v < 32 → kind_at rows v ≡ 6 → Measures (length ls) (measured_by row-of-sound) (measure_in ls)
   sound-measures v lv k s e h l =
-      let r = with_max (max-among rows v 32 lv k) in
+      let r = with_max (max-among rows v (omega (arith, long)) k) in
       measured-row row-of-sound (st s e) (λ z. omega (arith, ap length r, ranked-length w sound-flags))
       ∙ count-ranked w sound-flags row-of-sound r narrow s e h (omega (arith, length-map ls is_sound)) (omega (arith, length-map ls is_sound))
       ∙ count-lines is_sound sound_lines refl (λ x xs. refl) s e ls

@@ -1,5 +1,5 @@
 // Fronts: a stretch, or none, which is one past every line. They are compared, stepped past and measured.
-// As `Option<Stretch>`, which is what `first` answers, a front took 8 to 15 in 100 more instructions of a search.
+// With `Option<Stretch>`, which is what `first` answers, the machine took 8 to 15 in 100 more instructions of long searches.
 ghost use Rattle.std.specs.Prelude.{◌≡◌, true, not, ◌&&◌, ◌<◌, eqb};
 ghost use Rattle.stretches.specs.Stretch.{st};
 ghost use Rattle.seek.specs.Source.{measured_by};

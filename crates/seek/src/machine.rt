@@ -10,20 +10,14 @@ ghost use Rattle.seek.specs.inner.Looks.{Narrows, Filters, Sought, Reached, Look
 
 use crate::fronts::{GONE, better, breaks, measure, past};
 use crate::{NONE, Searched, State};
-use basics::{least, most};
-use nodes::{
-    AND, HAS, IN, LIST, MARKS, MAX, OR, OUT, ROW, THEN, is_chain, is_proof, next_of, stop_of,
-};
+use nodes::{AND, HAS, IN, LIST, MARKS, MAX, OR, OUT, ROW, THEN, is_proof, next_of, stop_of};
 use stretches::Stretch;
 
 // Whether the kind asks for one of B that holds a front, not for one inside it: `in` and `out`.
 fn asks_holder(kind: usize) -> bool
     ensures { result ≡ holder_kind kind }
 {
-    if kind == IN {
-        return true;
-    }
-    kind == OUT
+    kind == IN || kind == OUT
 }
 
 // Whether the kind keeps a front, given whether none of B is found for it: `in` and `has` keep it if one is, `less` and `out` if none is.
@@ -37,23 +31,7 @@ fn keeps(kind: usize, missed: bool) -> bool
 fn settles(kind: usize, end: u32) -> bool
     ensures { (result ≡ true → (Narrows kind → ⊥) × (end < 65536)) × (result ≡ false → Narrows kind ⊎ (65536 ≤ end)) }
 {
-    if kind == AND {
-        return false;
-    }
-    if kind == THEN {
-        return false;
-    }
-    end < NONE
-}
-
-// Whether it is the kind of an operator but `or`.
-fn has_looks(kind: usize) -> bool
-    ensures { (result ≡ true → (1 < kind) × (kind < 10)) × (result ≡ false → (kind < 2) ⊎ (9 < kind)) }
-{
-    if kind < AND {
-        return false;
-    }
-    kind <= HAS
+    kind != AND && kind != THEN && end < NONE
 }
 
 impl<'a> Searched<'a> {
@@ -89,8 +67,8 @@ impl<'a> Searched<'a> {
             if NONE <= f.start {
                 return GONE;
             }
-            s = least(s, f.start);
-            e = most(e, f.end);
+            s = s.min(f.start);
+            e = e.max(f.end);
             c = next_of(self.rows, c);
         }
         Stretch { start: s, end: e }
@@ -202,14 +180,11 @@ impl<'a> Searched<'a> {
         if stop_of(self.rows, v) <= v + 1 {
             return GONE;
         }
-        let kind = self.rows[v].kind;
-        if kind == AND {
-            return self.span(st, v, t);
+        match self.rows[v].kind {
+            AND => self.span(st, v, t),
+            ROW | THEN => self.chain(st, v, t),
+            _ => self.filter(st, v, t),
         }
-        if is_chain(kind) {
-            return self.chain(st, v, t);
-        }
-        self.filter(st, v, t)
     }
 
     // Look by look to the front. `and` and `then`: the last look that still ends where the first does. `row` and the filters: the first look that is good.
@@ -245,20 +220,13 @@ impl<'a> Searched<'a> {
         requires { v < 32 }
         ensures { Sought (source_of self.now) self.now.rows.now st.old v t result st.new }
     {
-        let kind = self.rows[v].kind;
-        if kind == MARKS {
-            return self.seek_row(v, t);
+        match self.rows[v].kind {
+            MARKS => self.seek_row(v, t),
+            LIST => self.seek_list(st, v, t),
+            OR => self.seek_or(st, v, t),
+            AND..=HAS => self.advance(st, v, t),
+            _ => GONE,
         }
-        if kind == LIST {
-            return self.seek_list(st, v, t);
-        }
-        if kind == OR {
-            return self.seek_or(st, v, t);
-        }
-        if has_looks(kind) {
-            return self.advance(st, v, t);
-        }
-        GONE
     }
 
     // The front of v, found anew and kept.

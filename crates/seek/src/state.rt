@@ -23,7 +23,7 @@ pub struct Passed {
     end: u32,
 }
 
-// What is kept of all nodes. Columns of numbers took 1 to 3 in 100 fewer instructions.
+// What is kept of all nodes. As six columns of numbers it took 1 to 3 in 100 fewer instructions of a search, and the places in the columns by hand.
 #[derive(Drop)]
 pub struct State {
     pub(crate) kept: [Kept; NODES],

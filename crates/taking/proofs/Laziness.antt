@@ -39,8 +39,8 @@ module _ (op : ℕ) (items ends counts : List ℕ) (p : ℕ) (r : TakeReply) (ce
   on : eqb (taking_refusal op items ends counts) 0 ≡ true
   on = eq-eqb (taking_refusal op items ends counts) 0 no-refusal
 
-  taken : Takes op items ends counts p
-  taken = takes op items ends counts p no-refusal
+  taken : Takes op items ends counts
+  taken = takes op items ends counts no-refusal
 
   fine : AllFine 65536 (lists_of items ends)
   fine = fine-lists (lists_of items ends) taken.lists.order

@@ -42,22 +42,27 @@ module _ (ls : List (List Stretch)) (c : Stretch) (ks : List ℕ) where
   pub shrink-start : (n : ℕ) → shrink n ls c ks ≡ shrink (n - 0) ls c ks
   shrink-start n = let z : n ≡ n - 0 = omega arith in ap (λ (m : ℕ). shrink m ls c ks) z
 
-  -- not at the top: after an advance the span is looked at
-  module _ (n t : ℕ) (h : t < n) (js : List ℕ) (e : is_top (top starts_first (fronts ls ks)) c ≡ false) (k : js ≡ advance starts_first ls ks) where
-    moves : (g : Front) → g ≡ span (fronts ls js) → shrink (n - t) ls c ks ≡ again g c js (λ x. shrink (n - (t + 1)) ls x js)
-    moves g w =
-        let z : n - t ≡ suc (n - (t + 1)) = omega arith in
-        let m = n - (t + 1) in
-        ap (λ (m : ℕ). shrink m ls c ks) z
-        ∙ (ap (λ v. cond v (handed (Some c) ks) (again (span (fronts ls (advance starts_first ls ks))) c (advance starts_first ls ks) (λ x. shrink m ls x (advance starts_first ls ks)))) e
-        ∙ (ap (λ ks. again (span (fronts ls ks)) c ks (λ x. shrink m ls x ks)) (sym k) ∙ ap (λ g. again g c js (λ x. shrink m ls x js)) (sym w)))
+-- turn t of n: c is not the top, and after an advance the counts are js
+pub record Turn (ls : List (List Stretch)) (c : Stretch) (ks : List ℕ) (n t : ℕ) (js : List ℕ) : Type 0 where
+  pub within : t < n
+  pub apart : is_top (top starts_first (fronts ls ks)) c ≡ false
+  pub moved : js ≡ advance starts_first ls ks
 
-    pub shrink_none : None ≡ span (fronts ls js) → shrink (n - t) ls c ks ≡ handed (Some c) js
-    shrink_none w = moves None w
+module _ {ls : List (List Stretch)} {c : Stretch} {ks : List ℕ} {n t : ℕ} {js : List ℕ} (u : Turn ls c ks n t js) where
+  -- the span is looked at
+  turned : (g : Front) → g ≡ span (fronts ls js) → shrink (n - t) ls c ks ≡ again g c js (λ x. shrink (n - (t + 1)) ls x js)
+  turned g w =
+      let z : n - t ≡ suc (n - (t + 1)) = omega (arith, u.within) in
+      let m = n - (t + 1) in
+      ap (λ (m : ℕ). shrink m ls c ks) z
+      ∙ (ap (λ v. cond v (handed (Some c) ks) (again (span (fronts ls (advance starts_first ls ks))) c (advance starts_first ls ks) (λ x. shrink m ls x (advance starts_first ls ks)))) u.apart
+      ∙ (ap (λ ks. again (span (fronts ls ks)) c ks (λ x. shrink m ls x ks)) (sym u.moved) ∙ ap (λ g. again g c js (λ x. shrink m ls x js)) (sym w)))
 
-    module _ (s : Stretch) (w : Some s ≡ span (fronts ls js)) where
-      pub shrink-out : inside s c ≡ false → shrink (n - t) ls c ks ≡ handed (Some c) js
-      shrink-out i = moves (Some s) w ∙ ap (λ v. cond v (shrink (n - (t + 1)) ls s js) (handed (Some c) js)) i
+  pub shrink_none : None ≡ span (fronts ls js) → shrink (n - t) ls c ks ≡ handed (Some c) js
+  shrink_none w = turned None w
 
-      pub shrink-turn : inside s c ≡ true → shrink (n - t) ls c ks ≡ shrink (n - (t + 1)) ls s js
-      shrink-turn i = moves (Some s) w ∙ ap (λ v. cond v (shrink (n - (t + 1)) ls s js) (handed (Some c) js)) i
+  pub shrink-out : (s : Stretch) → Some s ≡ span (fronts ls js) → inside s c ≡ false → shrink (n - t) ls c ks ≡ handed (Some c) js
+  shrink-out s w i = turned (Some s) w ∙ ap (λ v. cond v (shrink (n - (t + 1)) ls s js) (handed (Some c) js)) i
+
+  pub shrink-turn : (s : Stretch) → Some s ≡ span (fronts ls js) → inside s c ≡ true → shrink (n - t) ls c ks ≡ shrink (n - (t + 1)) ls s js
+  shrink-turn s w i = turned (Some s) w ∙ ap (λ v. cond v (shrink (n - (t + 1)) ls s js) (handed (Some c) js)) i

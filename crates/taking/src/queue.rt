@@ -1,4 +1,6 @@
 // The queue of Algorithms 1 to 3 over lent lists, of each of which only the number of items taken is kept.
+// The lists and their counts stay two arguments, as many of one as of the other: a struct of both would hold the lent cells as a &mut, and its model does not
+// say what they hold once it is gone, which `take` promises.
 ghost use Rattle.std.specs.Prelude.{◌≡◌, ◌<◌, ◌≤◌, length, get_or, IfSome};
 ghost use Rattle.stretches.specs.Stretch.{inside};
 ghost use Rattle.stretches.specs.Taking.{fronts, top, join, span, contains, advance};

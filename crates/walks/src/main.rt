@@ -6,7 +6,7 @@ ghost use Rattle.std.specs.Prelude.{◌≡◌};
 ghost use Rattle.lines.specs.Lines.{line_end};
 ghost use Rattle.event_log.specs.Reading.{read_at};
 
-use basics::wide;
+use basics::{first, wide};
 use event_log::Reading;
 use finder::Answer;
 use input::read_whole;
@@ -14,73 +14,48 @@ use reading_mark::{Mark, line_after, read_from};
 use records::Record;
 use std::io;
 
-fn put(rt: &impl Print, text: &[u8]) -> io::Result<()> {
-    rt.write_all(text)
-}
-
-// What came one by one, and whether it is what was filled.
-#[derive(Clone, Copy)]
-struct Walked {
-    count: usize,
-    agrees: bool,
-}
+// How many came one by one, as an error where they are not what was filled.
+type Walked = Result<usize, usize>;
 
 fn verdict(rt: &impl Print, w: Walked) -> io::Result<()> {
-    rt.print(w.count)?;
-    if w.agrees {
-        put(rt, b" as filled\n")
-    } else {
-        put(rt, b" NOT AS FILLED\n")
+    match w {
+        Ok(count) => println!(rt; "{count} as filled"),
+        Err(count) => println!(rt; "{count} NOT AS FILLED"),
     }
-}
-
-// Whether pair k of the cells is this stretch.
-fn holds(cells: &[u32], k: usize, start: usize, end: usize) -> bool {
-    k < cells.len() / 2 && wide(cells[2 * k]) == start && wide(cells[2 * k + 1]) == end
 }
 
 // ── By steps ──
 
-fn gives(answer: Answer, cells: &[u32], k: usize) -> bool {
+fn gives(answer: Answer, stretch: [u32; 2]) -> bool {
     match answer {
         Answer::None => false,
-        Answer::Stretch { start, end } => holds(cells, k, start as usize, end as usize),
+        Answer::Stretch { start, end } => [start, end] == stretch,
     }
 }
 
-fn is_none(answer: Answer) -> bool {
-    match answer {
-        Answer::None => true,
-        Answer::Stretch { start: _, end: _ } => false,
-    }
-}
-
-// Steps through the stretches of a pattern, of which the cells hold n, and once more.
-fn step_through(pattern: &[u8], log: &[u8], cells: &[u32], n: usize) -> Walked {
-    let opened = finder::open(pattern, log);
-    let mut f = opened.finder;
-    for k in 0..n {
+// Steps through the stretches of a pattern, those that were filled, and once more.
+fn step_through(pattern: &[u8], log: &[u8], filled: &[[u32; 2]]) -> Walked {
+    let mut f = finder::open(pattern, log).finder;
+    for (k, stretch) in filled.iter().enumerate() {
         let s = f.step(log);
         f = s.finder;
-        if !gives(s.answer, cells, k) {
-            return Walked {
-                count: k,
-                agrees: false,
-            };
+        if !gives(s.answer, *stretch) {
+            return Err(k);
         }
     }
-    Walked {
-        count: n,
-        agrees: is_none(f.step(log).answer),
+    match f.step(log).answer {
+        Answer::None => Ok(filled.len()),
+        Answer::Stretch { .. } => Err(filled.len()),
     }
 }
 
 fn steps(rt: &impl Print, pattern: &[u8], log: &[u8]) -> io::Result<()> {
     let mut cells = [0u32; 1024];
     let r = finder::fill(pattern, log, &mut cells, 0);
-    put(rt, pattern)?;
-    put(rt, b": ")?;
-    verdict(rt, step_through(pattern, log, &cells, r.count))
+    let filled = first(cells.as_chunks().0, r.count);
+    rt.write_all(pattern)?;
+    print!(rt; ": ")?;
+    verdict(rt, step_through(pattern, log, filled))
 }
 
 // ── Line by line ──
@@ -92,141 +67,97 @@ fn below(log: &[u8], at: usize) -> Reading
     Mark::new(log).moved(at).passed().read()
 }
 
-// How a line is come to: by its number, by the place where it starts, or by a mark at the place where the line before it starts.
+// A line: its number, the place where it starts, and that of the line before it.
 #[derive(Clone, Copy)]
-enum Way {
-    Number,
-    Place,
-    Mark,
-}
-
-fn line(log: &[u8], way: Way, p: usize, at: usize, before: usize) -> Reading {
-    match way {
-        Way::Number => line_after(log, p),
-        Way::Mark if 0 < p => below(log, before),
-        _ => read_from(log, at),
-    }
+struct Line {
+    number: usize,
+    at: usize,
+    before: Option<usize>,
 }
 
 // A leaf asks for a code or a frame on a lane, 0 being any lane.
 #[derive(Clone, Copy)]
-enum Asks {
-    Code(u16),
-    Frame(u16),
-}
-
-#[derive(Clone, Copy)]
-struct Leaf {
-    asks: Asks,
-    lane: u16,
+enum Leaf {
+    Code(u16, u16),
+    Frame(u16, u16),
 }
 
 fn matches(leaf: Leaf, r: Record) -> bool {
-    let asked = match leaf.asks {
-        Asks::Code(code) => r.code == code,
-        Asks::Frame(frame) => r.frame == frame,
+    let (holds, lane) = match leaf {
+        Leaf::Code(code, lane) => (r.code == code, lane),
+        Leaf::Frame(frame, lane) => (r.frame == frame, lane),
     };
-    asked && (leaf.lane == 0 || r.lane == leaf.lane)
+    holds && (lane == 0 || r.lane == lane)
 }
 
-// Of a line: whether the leaf matches it, and the place after it.
-#[derive(Clone, Copy)]
-struct Seen {
-    hit: bool,
-    next: usize,
-}
-
-fn told(leaf: Leaf, r: Reading) -> Option<Seen> {
-    match r {
-        Reading::NoLine => None,
-        Reading::Damaged { next } => Some(Seen { hit: false, next }),
-        Reading::Sound { record, next } => Some(Seen {
-            hit: matches(leaf, record),
-            next,
-        }),
-    }
-}
-
-// Goes through the lines, and once more; the cells hold the n that the leaf matches.
-fn read_through(log: &[u8], way: Way, leaf: Leaf, cells: &[u32], n: usize) -> Walked {
-    let lines = lines::line_count(log);
+// Goes through the lines as they are read, and once more; filled are those that the leaf matches.
+fn read_through<F: Fn(Line) -> Reading>(
+    lines: usize,
+    leaf: Leaf,
+    filled: &[[u32; 2]],
+    read: F,
+) -> Walked
+    requires { F.IsAlwaysCallable read }
+{
     let mut k = 0;
-    let mut before = 0;
-    let mut at = 0;
-    for p in 0..lines {
-        // A line is there and, where the leaf matches it, is pair k of the cells.
-        let seen = match told(leaf, line(log, way, p, at, before)) {
-            Some(seen) if !seen.hit || holds(cells, k, p, p) => seen,
-            _ => {
-                return Walked {
-                    count: k,
-                    agrees: false,
-                };
-            }
+    let mut line = Line {
+        number: 0,
+        at: 0,
+        before: None,
+    };
+    for number in 0..lines {
+        let (hit, next) = match read(line) {
+            Reading::NoLine => return Err(k),
+            Reading::Damaged { next } => (false, next),
+            Reading::Sound { record, next } => (matches(leaf, record), next),
         };
-        if seen.hit {
+        if hit {
+            let Some([start, end]) = filled.get(k) else {
+                return Err(k);
+            };
+            if wide(*start) != number || wide(*end) != number {
+                return Err(k);
+            }
             k += 1;
         }
-        before = at;
-        at = seen.next;
+        line = Line {
+            number: number + 1,
+            at: next,
+            before: Some(line.at),
+        };
     }
-    let last = told(leaf, line(log, way, lines, at, before));
-    Walked {
-        count: k,
-        agrees: last.is_none() && k == n,
+    match read(line) {
+        Reading::NoLine if k == filled.len() => Ok(k),
+        _ => Err(k),
     }
 }
 
-fn by(rt: &impl Print, pattern: &[u8], how: &[u8], w: Walked) -> io::Result<()> {
-    put(rt, pattern)?;
-    put(rt, how)?;
-    verdict(rt, w)
-}
-
+// A line by its number, by the place where it starts, and by a mark at the place where the line before it starts.
 fn lines_of(rt: &impl Print, pattern: &[u8], leaf: Leaf, log: &[u8]) -> io::Result<()> {
     let mut cells = [0u32; 1024];
     let r = finder::fill(pattern, log, &mut cells, 0);
-    by(
+    let filled = first(cells.as_chunks().0, r.count);
+    let lines = lines::line_count(log);
+    rt.write_all(pattern)?;
+    print!(rt; " by number: ")?;
+    verdict(
         rt,
-        pattern,
-        b" by number: ",
-        read_through(log, Way::Number, leaf, &cells, r.count),
+        read_through(lines, leaf, filled, |line| line_after(log, line.number)),
     )?;
-    by(
+    rt.write_all(pattern)?;
+    print!(rt; " by place: ")?;
+    verdict(
         rt,
-        pattern,
-        b" by place: ",
-        read_through(log, Way::Place, leaf, &cells, r.count),
+        read_through(lines, leaf, filled, |line| read_from(log, line.at)),
     )?;
-    by(
+    rt.write_all(pattern)?;
+    print!(rt; " by mark: ")?;
+    verdict(
         rt,
-        pattern,
-        b" by mark: ",
-        read_through(log, Way::Mark, leaf, &cells, r.count),
-    )
-}
-
-fn ev(rt: &impl Print, pattern: &[u8], code: u16, lane: u16, log: &[u8]) -> io::Result<()> {
-    lines_of(
-        rt,
-        pattern,
-        Leaf {
-            asks: Asks::Code(code),
-            lane,
-        },
-        log,
-    )
-}
-
-fn fr(rt: &impl Print, pattern: &[u8], frame: u16, lane: u16, log: &[u8]) -> io::Result<()> {
-    lines_of(
-        rt,
-        pattern,
-        Leaf {
-            asks: Asks::Frame(frame),
-            lane,
-        },
-        log,
+        read_through(lines, leaf, filled, |line| match line.before {
+            None => read_from(log, line.at),
+            Some(before) => below(log, before),
+        }),
     )
 }
 
@@ -250,11 +181,11 @@ fn patterns(rt: &impl Print, log: &[u8]) -> io::Result<()> {
 }
 
 fn leaves(rt: &impl Print, log: &[u8]) -> io::Result<()> {
-    ev(rt, b"ev,2,0", 2, 0, log)?;
-    ev(rt, b"ev,7,5", 7, 5, log)?;
-    fr(rt, b"fr,3,0", 3, 0, log)?;
-    fr(rt, b"fr,0,4", 0, 4, log)?;
-    ev(rt, b"ev,254,0", 254, 0, log)
+    lines_of(rt, b"ev,2,0", Leaf::Code(2, 0), log)?;
+    lines_of(rt, b"ev,7,5", Leaf::Code(7, 5), log)?;
+    lines_of(rt, b"fr,3,0", Leaf::Frame(3, 0), log)?;
+    lines_of(rt, b"fr,0,4", Leaf::Frame(0, 4), log)?;
+    lines_of(rt, b"ev,254,0", Leaf::Code(254, 0), log)
 }
 
 fn main(rt: HostRuntime) -> io::Result<()> {

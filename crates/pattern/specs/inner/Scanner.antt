@@ -13,6 +13,10 @@ use Rattle.pattern.specs.declared.Table.{Table}
 use Rattle.pattern.specs.declared.Refusal.{Refusal}
 use Rattle.pattern.specs.declared.Refusal.TheVariants.{Misspelt}
 
+-- the row, if it is one
+abbrev pub row_found : ℕ → Option ℕ
+row_found r = cond (ltb r (length kinds)) (Some r) None
+
 -- the numbers of a state are small
 abbrev pub Bounded : ℕ → State → Type 0
 Bounded m (Letters r i n) = (1 ≤ n) × (n ≤ m) × (i ≤ m) × (r < length kinds)

@@ -2,5 +2,5 @@
 use Rattle.std.proofs.Common.{length}
 use Rattle.pattern_cases.proofs.patterns.Given as goal
 
-abbrev pub decreases-loop-to : goal.decreases-loop-to
-decreases-loop-to g l = length l.left
+abbrev pub decreases-loop-left : goal.decreases-loop-left
+decreases-loop-left g l = length l.left

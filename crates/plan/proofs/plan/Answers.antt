@@ -1,16 +1,17 @@
--- `plan::plan` meets its contract. The loop's invariant: the first v nodes are planned. Assumes nothing.
-use mathlib.Core.Path.{◌≡◌, refl, ap, ◌∙◌}
-use Rattle.plan.specs.Plan.{planned_to}
-use Rattle.plan.proofs.Planning.{plan-more}
-use native.Mathlib.Omega.{arith}
+-- `plan::plan` meets its contract. Assumes nothing.
+use Rattle.std.proofs.Common.{◌≡◌, ◌<◌, length, get_or, set, ap, ◌∙◌, arith, length-append, length-take, length-drop}
+use lib.ListN.{length-map}
+use Rattle.std.proofs.lemmas.List.{get_or_default}
+use Rattle.std.proofs.lemmas.List.Edits.{map_over_more}
+use Rattle.stretches.specs.declared.Node.{Node}
+use Rattle.stretches.specs.Table.{no_node}
+use Rattle.plan.specs.Plan.{plan_node}
 use Rattle.plan.proofs.plan.Goals as goal
 
-pub loop-v-init : goal.loop-v-init
-unfolding planned_to
-loop-v-init c = (omega arith, refl)
-
-pub loop-v-preserved : goal.loop-v-preserved
-loop-v-preserved c = (omega arith, plan-more _ _ _ _ _ _ _ c.loop-v.invariant.1 c.plan_node.ensures)
-
-pub returns : goal.returns
-returns c = let z : c.loop-v.v ≡ 32 = omega arith in c.loop-v.invariant.1 ∙ ap (planned_to c.args.leaves.now c.args.n c.args.width c.args.rows.now) z
+pub loop-node-preserved : goal.loop-node-preserved
+loop-node-preserved c = let a = c.args in
+    let l = c.loop-node in
+    let h : l.node-index < length a.rows.now = omega arith in
+    let long : length l.node-items ≡ 32 = omega (arith, ap length l.invariant, length-append {A = Node}, length-map {A = Node} {B = Node}, length-take {A = Node}, length-drop {A = Node}) in
+    ap (set l.node-items l.node-index) c.plan_node.ensures
+    ∙ map_over_more (plan_node a.leaves.now a.width) a.rows.now l.node-items l.node-index (get_or l.node-items l.node-index no_node) h l.invariant (get_or_default l.node-items l.node-index no_node _ (omega arith))

@@ -1,11 +1,9 @@
--- `plan::plan` meets its contract. The loop's invariant: the first v nodes are planned. Assumes nothing.
+-- `plan::plan` meets its contract. The loop's invariant: the nodes before are planned, the others as they were. Assumes nothing.
 use mathlib.Core.Path.{◌≡◌}
-use Prim.Native.Nat.{◌-◌, ◌≤◌}
-use Rattle.plan.specs.Plan.{planned_to}
+use mathlib.Core.List.{map, ◌++◌}
+use lib.ListN.{take, drop}
+use Rattle.plan.specs.Plan.{plan_node}
 use Rattle.plan.proofs.plan.Given as goal
 
-abbrev pub invariant-loop-v : goal.invariant-loop-v
-invariant-loop-v l = (l.v ≤ 32) × (l.rows ≡ planned_to l.leaves l.n l.width l.initial.rows l.v)
-
-abbrev pub decreases-loop-v : goal.decreases-loop-v
-decreases-loop-v l = 32 - l.v
+abbrev pub invariant-loop-node : goal.invariant-loop-node
+invariant-loop-node l = l.node-items ≡ map (plan_node l.leaves l.width) (take l.node-index l.rows) ++ drop l.node-index l.rows

@@ -1,5 +1,4 @@
 -- `plan::room::with_marks` meets its contract. Assumes nothing.
-use borrow.Author.Rules.{rules}
 use native.Mathlib.Omega.{arith}
 use Rattle.plan.proofs.Planning.{short-width}
 use Rattle.plan.proofs.room.with_marks.Goals as goal

@@ -31,7 +31,7 @@ pub span-returns-then-f-ge-NONE : goal.span-returns-then-f-ge-NONE
 span-returns-then-f-ge-NONE t c = λ k. span-gone c.requires.0 c.loop-c.invariant.0 (omega (arith, c.stop_of-stop.ensures.value)) c.seek-f.ensures c.if-f-ge-NONE.true refl k
 
 pub span-loop-c-preserved : goal.span-loop-c-preserved
-span-loop-c-preserved t c = (span-turn c.requires.0 c.loop-c.invariant.0 (omega (arith, c.stop_of-stop.ensures.value)) c.seek-f.ensures c.if-f-ge-NONE.false c.least-s.ensures c.most-e.ensures c.next_of-c.ensures.value, omega (arith, c.next_of-c.ensures.lower_bound.0 (omega arith)))
+span-loop-c-preserved t c = (span-turn c.requires.0 c.loop-c.invariant.0 (omega (arith, c.stop_of-stop.ensures.value)) c.seek-f.ensures c.if-f-ge-NONE.false c.min-s.ensures c.max-e.ensures c.next_of-c.ensures.value, omega (arith, c.next_of-c.ensures.lower_bound.0 (omega arith)))
 
 pub span-returns : goal.span-returns
 span-returns t c = λ k. span-end c.loop-c.invariant.0 (omega (arith, c.stop_of-stop.ensures.value)) refl k
@@ -112,16 +112,6 @@ filter-returns t c = λ k. filter-done c.requires.0 c.requires.1 c.seek-a.ensure
 pub look_at-returns-then-stop_of-v : goal.look_at-returns-then-stop_of-v
 look_at-returns-then-stop_of-v t c = look_none (omega (arith, c.stop_of.ensures.value)) refl
 
-pub look_at-returns-then-kind-eq-AND : goal.look_at-returns-then-kind-eq-AND
-look_at-returns-then-kind-eq-AND t c = c.span.ensures c.if-kind-eq-AND.true
-
-pub look_at-returns-then-is_chain : goal.look_at-returns-then-is_chain
-look_at-returns-then-is_chain t c = c.chain.ensures (sym c.is_chain.ensures ∙ c.if-is_chain.true)
-
-pub look_at-returns : goal.look_at-returns
-look_at-returns t c = let no = no-chain _ (sym c.is_chain.ensures ∙ c.if-is_chain.false) in
-    c.filter.ensures (c.if-kind-eq-AND.false, no.0, no.1)
-
 -- ── `advance` ──
 
 pub advance-loop-from-init : goal.advance-loop-from-init
@@ -144,23 +134,17 @@ advance-returns t c = λ k. advance-out c.requires.0 c.requires.1 c.loop-from.in
 
 -- ── `fresh` ──
 
-pub fresh-returns-then-kind-eq-MARKS : goal.fresh-returns-then-kind-eq-MARKS
-fresh-returns-then-kind-eq-MARKS t c = by_row_lem (omega (arith, c.requires)) c.if-kind-eq-MARKS.true c.seek_row.ensures
+pub fresh-returns-in-16 : goal.fresh-returns-in-16
+fresh-returns-in-16 t c = by_row_lem (omega (arith, c.requires)) c.in-16.is c.seek_row.ensures
 
-pub fresh-returns-then-kind-eq-LIST : goal.fresh-returns-then-kind-eq-LIST
-fresh-returns-then-kind-eq-LIST t c = by-list (omega (arith, c.requires)) c.if-kind-eq-LIST.true c.seek_list.ensures
+pub fresh-returns-in-17 : goal.fresh-returns-in-17
+fresh-returns-in-17 t c = by-list (omega (arith, c.requires)) c.in-17.is c.seek_list.ensures
 
-pub fresh-returns-then-kind-eq-OR : goal.fresh-returns-then-kind-eq-OR
-fresh-returns-then-kind-eq-OR t c = c.seek_or.ensures c.if-kind-eq-OR.true
+pub fresh-returns-in_default : goal.fresh-returns-in_default
+fresh-returns-in_default t c = by-none (omega (arith, c.requires)) (inl (omega arith)) (λ e. omega arith) (λ e. omega arith) refl
 
-pub fresh-advance-requires : goal.fresh-advance-requires
-fresh-advance-requires t c = let l = c.has_looks.ensures.0 c.if-has_looks.true in search (rules, l)
-
-pub fresh-returns-then-has_looks : goal.fresh-returns-then-has_looks
-fresh-returns-then-has_looks t c = c.advance.ensures (c.has_looks.ensures.0 c.if-has_looks.true).1
-
-pub fresh-returns : goal.fresh-returns
-fresh-returns t c = by-none (omega (arith, c.requires)) (⊎_elim (λ h. inl (omega (arith, h, c.if-kind-eq-OR.false))) (λ h. inr h) (c.has_looks.ensures.1 c.if-has_looks.false)) c.if-kind-eq-MARKS.false c.if-kind-eq-LIST.false refl
+pub fresh-returns-in_default-2 : goal.fresh-returns-in_default-2
+fresh-returns-in_default-2 t c = by-none (omega (arith, c.requires)) (inr (omega arith)) (λ e. omega arith) (λ e. omega arith) refl
 
 -- ── `renew` ──
 
