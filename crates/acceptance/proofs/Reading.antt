@@ -6,7 +6,8 @@ use mathlib.Core.List.{List, []}
 use lib.ListN.{length, replicate}
 use borrow.Author.Tests.{le-ltb}
 use native.Mathlib.Omega.{arith}
-use Rattle.std.specs.Prelude.{Ok, Err}
+use Rattle.std.specs.Prelude.{Result, Ok, Err}
+use Rattle.std.specs.Result.{result_map_both}
 use Rattle.stretches.specs.declared.Node.{Node}
 use Rattle.stretches.specs.Table.{no_node}
 use Rattle.pattern.specs.Answer as answer
@@ -20,10 +21,11 @@ use Rattle.pattern.proofs.Outcomes.{accepts-spells, read-accepts, read-refuses}
 use Rattle.pattern.proofs.Rows.{table-tree}
 use Rattle.meaning.specs.Meaning.{answers_in, table_in}
 use Rattle.meaning.specs.declared.Refusal.{Refusal}
+use Rattle.meaning.specs.declared.Refusal.TheVariants.{LongLog}
 use Rattle.meaning.specs.Refusals.{Signal, refused, accepted, long_log, of_pattern, refusal}
 use Rattle.meaning.specs.Finding.{list_of}
-use Rattle.meaning.specs.Replies.{number_of, place_of, told}
-use Rattle.meaning.proofs.Finding.{bad-pattern, good-pattern, refused-list, accepted-list, accepted-number}
+use Rattle.meaning.specs.Replies.{number_of, place_of, told, signal}
+use Rattle.meaning.proofs.Finding.{long-log, bad-pattern, good-pattern, refused-list, accepted-list, accepted-number}
 use Rattle.meaning.proofs.Replies.{some_number}
 use Rattle.meaning.proofs.Table.{table-answers}
 use Rattle.acceptance.specs.Readied.{rows_in}
@@ -51,6 +53,14 @@ module _ (text log : List ℕ) where
 
   pub read-accepted : (t : Table) → length log ≤ 61440 → ReadGives text (Ok t) → accepted ≡ refusal text log
   read-accepted t h g = let a = read-accepts text t g in sym (good-pattern text log a.0 h a.1)
+
+  -- what is signalled of a log that is too long, and by what the text is read as of any other
+  pub read-long : 61440 < length log → signal {A = List Node} (Err LongLog) ≡ refusal text log
+  read-long h = sym (long-log text log h)
+
+  pub read_short : (r : Result Table pattern.Refusal) → length log ≤ 61440 → ReadGives text r → signal (result_map_both (λ (t : Table). t.rows) told r) ≡ refusal text log
+  read_short (Ok t) h g = read-accepted t h g
+  read_short (Err v) h g = read-refused v h g
 
   -- of an accepted call the log is not too long, the pattern stands in the table, and the list is the pattern's
   pub record AcceptedTree : Type 0 where

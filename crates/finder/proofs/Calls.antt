@@ -35,7 +35,7 @@ use Rattle.plan.specs.Marks.{Marks}
 use Rattle.plan.proofs.Planning.{marks-first}
 use Rattle.walk.specs.declared.Walked.{Walked}
 use Rattle.seek.specs.declared.Searched.{Searched}
-use Rattle.seek.specs.Source.{source_of}
+use Rattle.seek.specs.Source.{Source, source_of, list_over, Good}
 use Rattle.walk.specs.Filling.{Filling, FillAll}
 use Rattle.finder.specs.declared.Finder.{Finder}
 use Rattle.finder.specs.Promises.{fresh, open_reply, opened, list_in}
@@ -86,6 +86,11 @@ pub short-list : (rows : List Node) (log : List ℕ) (line f : ℕ) (cells : Lis
 unfolding list_in
 short-list rows log line f cells w cells' h g =
     subst (λ (l : List Stretch). Filling (onward l line) f cells w cells') (sym (ap (λ b. cond b [] (table_in rows log)) (le-ltb 61440 (length log) h))) g
+
+-- a table of the machine with this list fills it
+pub machine-fills : {src : Source} {t : List Node} {l : List Stretch} {line f : ℕ} {cells : List ℕ} {r : Walked} {cells' : List ℕ}
+    → Good src t × (list_over src t 0 ≡ l) → FillAll src t line f cells r cells' → Filling (onward l line) f cells r cells'
+machine-fills {line = line} {f} {cells} {r} {cells'} m g = subst (λ (l : List Stretch). Filling (onward l line) f cells r cells') m.1 (g.fills m.0)
 
 -- over a log's marks
 pub marks-fill : {rows : List Node} {log : List ℕ} {s : Searched} {line f : ℕ} {old new cells : List ℕ} {r : Walked} {cells' : List ℕ}

@@ -32,6 +32,18 @@ use Rattle.picks.specs.inner.Passes.{held_in, Lying, Upright, before, nearer, ne
 pub answers-lie : (src : Source) (rows : List Node) → Good src rows → Lying (list_over src rows 0)
 answers-lie src rows good s e m = let f = fine src rows good 0 (omega arith) in (f.sound s e m, f.below s e m)
 
+-- ── Which is ahead ──
+
+module _ (x y : Stretch) (hx : x.start ≤ x.end) (hy : y.start ≤ y.end) where
+  pub ahead-shorter : x.end - x.start < y.end - y.start → true ≡ ahead x y
+  ahead-shorter h = simp (lt-ltb (length_of x) (length_of y) (omega arith))
+
+  pub ahead-longer : y.end - y.start < x.end - x.start → false ≡ ahead x y
+  ahead-longer h = simp (le-ltb (length_of x) (length_of y) (omega arith), ne_eqb (length_of x) (length_of y) (λ z. omega arith))
+
+  pub ahead-alike : y.end - y.start ≤ x.end - x.start → x.end - x.start ≤ y.end - y.start → ltb y.start x.start ≡ ahead x y
+  ahead-alike h k = simp (le-ltb (length_of x) (length_of y) (omega arith), eq-eqb (length_of x) (length_of y) (omega arith))
+
 -- ── The best so far ──
 
 -- the best of a list, one after another

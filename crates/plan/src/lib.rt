@@ -83,7 +83,7 @@ fn plan(leaves: &Leaves, width: usize, rows: &Nodes) -> Nodes
 
 // Marks the log's lines for the leaves of a pattern's table, and the sound ones in `sound`, and gives the table over these rows: where a row has a bit for each
 // line, and `sound` the words that `sound_words` says, each of its nodes has the list that it has in the pattern's table. Where the rows do not fit into the
-// words, these and `sound` stay, and the table has no nodes, as it was promised before.
+// words, these and `sound` stay, and the table has no nodes: `prepared`, a public promise, says so, and `Roomy` words have room.
 pub fn prepare(
     rows: &Nodes,
     log: &[u8],

@@ -100,3 +100,8 @@ module _ {src : Source} {rows : List Node} {s : State} {t : ℕ} {r : Front} {s'
   step-some {x} e =
       let y : suc x.start ≡ x.start + 1 = omega arith in
       onward-at (list_over src rows 0) (fine src rows good 0 (omega arith)).rising t x (sym (g.finds (omega arith) good rdy).is ∙ e) ∙ ap (λ (n : ℕ). x ∷ rest src rows n) y
+
+-- what `first` finds is the node's first stretch from the line on
+pub first-front : {src : Source} {rows : List Node} {s s' : State} {v t : ℕ} {f : Front} → FirstOf src rows s v t f s' → Good src rows → Ready src rows s → v < 32 → f ≡ first_from (list_over src rows v) t
+unfolding first
+first-front g good rdy lv = (g.finds lv good rdy).is

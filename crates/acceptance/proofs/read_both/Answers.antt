@@ -1,12 +1,10 @@
 -- `acceptance::read_both` meets its contract. Assumes nothing.
-use mathlib.Core.Path.{sym}
 use Rattle.std.proofs.lemmas.Result.{err_from_is_err_and}
-use Rattle.meaning.proofs.Finding.{long-log}
-use Rattle.acceptance.proofs.Reading.{read-refused, read-accepted}
+use Rattle.acceptance.proofs.Reading.{read-long, read-refused, read-accepted}
 use Rattle.acceptance.proofs.read_both.Goals as goal
 
 pub returns-then-log-gt-LOG_MAX-clause-signal : goal.returns-then-log-gt-LOG_MAX-clause-signal
-returns-then-log-gt-LOG_MAX-clause-signal c = sym (long-log c.args.text.now c.args.log.now c.if-log-gt-LOG_MAX.true)
+returns-then-log-gt-LOG_MAX-clause-signal c = read-long c.args.text.now c.args.log.now c.if-log-gt-LOG_MAX.true
 
 pub returns-in_err-table-clause-signal : goal.returns-in_err-table-clause-signal
 returns-in_err-table-clause-signal c =

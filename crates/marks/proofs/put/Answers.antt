@@ -8,11 +8,13 @@ pub returns-after-marked : goal.returns-after-marked
 returns-after-marked c = let a = c.args in
     let h = sym c.inside.ensures ∙ c.if-inside.true in
     elim c.if-marked.branch [
-    then-marked w ↦ rw (w.word-is, w.if-marked.true) (set_line a.words.now a.at a.width a.p h (omega arith) (omega arith))
-    | else-marked w ↦ rw (w.word-is, w.if-marked.false) (unset-line a.words.now a.at a.width a.p h (omega arith) (omega arith)) ]
+      | then-marked w ↦ rw (w.word-is, w.if-marked.true) (set_line a.words.now a.at a.width a.p h (omega arith) (omega arith))
+      | else-marked w ↦ rw (w.word-is, w.if-marked.false) (unset-line a.words.now a.at a.width a.p h (omega arith) (omega arith))
+    ]
 
 pub returns-else-inside : goal.returns-else-inside
 returns-else-inside c = let a = c.args in
     elim c.else-inside.branch [
-    else-inside-via-then-inside+else-p-width w ↦ unchanged-past a.marked a.words.now a.at a.width a.p (omega arith)
-    | else-inside-via-else-inside w ↦ unchanged-outside a.marked a.words.now a.at a.width a.p (sym c.inside.ensures ∙ w.if-inside.false) ]
+      | else-inside-via-then-inside+else-p-width w ↦ unchanged-past a.marked a.words.now a.at a.width a.p (omega arith)
+      | else-inside-via-else-inside w ↦ unchanged-outside a.marked a.words.now a.at a.width a.p (sym c.inside.ensures ∙ w.if-inside.false)
+    ]
