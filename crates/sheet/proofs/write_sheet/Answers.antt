@@ -10,9 +10,9 @@ use Rattle.sheet.proofs.write_sheet.Goals as goal
 pub returns-in-Ok : goal.returns-in-Ok
 returns-in-Ok c = let a = c.args in
     let w = c.write_found in
-    subst (λ (s : List ℕ). Writes s a.out.now w.result w.new.out) (sheet-found c.in-Ok.f a.log.now a.cells.now c.count-c.result c.count-c.ensures) w.ensures
+    rw c.in-Ok.is (subst (λ (s : List ℕ). Writes s a.out.now w.result w.new.out) (sheet-found c.in-Ok.f a.log.now a.cells.now c.count-c.result c.count-c.ensures) w.ensures)
 
 pub returns-in-Err : goal.returns-in-Err
 returns-in-Err c = let a = c.args in
     let w = c.write_refused in
-    subst (λ (s : List ℕ). Writes s a.out.now w.result w.new.out) (ap₂ refused_sheet c.number.ensures c.place.ensures ∙ sheet-refused c.in-Err.e a.log.now a.cells.now) w.ensures
+    rw c.in-Err.is (subst (λ (s : List ℕ). Writes s a.out.now w.result w.new.out) (ap₂ refused_sheet c.number.ensures c.place.ensures ∙ sheet-refused c.in-Err.e a.log.now a.cells.now) w.ensures)
