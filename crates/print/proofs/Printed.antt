@@ -8,7 +8,8 @@ use lib.Seq.{drop-cons, sets}
 use native.Mathlib.Omega.{arith}
 use Rattle.std.specs.Simd.{first_chunks}
 use Rattle.basics.proofs.Basics.{take-map}
-use Rattle.stretches.specs.Stretch.{Stretch, st}
+use Rattle.stretches.specs.declared.Stretch.{Stretch}
+use Rattle.stretches.specs.Stretch.{st}
 use Rattle.stretches.specs.Lent.{pairs}
 use Rattle.stretches.specs.Filling.{flat}
 use Rattle.basics.specs.Decimal.{decimal}

@@ -6,7 +6,7 @@ use mathlib.Core.List.{List, [], ◌∷◌, ◌++◌, append_assoc}
 use lib.ListN.{length, set, length-append}
 use lib.Seq.{sets}
 use native.Mathlib.Omega.{arith}
-use Rattle.stretches.specs.Stretch.{Stretch}
+use Rattle.stretches.specs.declared.Stretch.{Stretch}
 use Rattle.basics.specs.Decimal.{decimal}
 use Rattle.print.specs.Print.{field, rows, found_sheet, refused_sheet, Writes}
 use Rattle.print.specs.inner.Cells.{stretches_of}

@@ -1,7 +1,8 @@
 -- The printed sheet, byte by byte, and what writing it into a lent buffer leaves: docs/FORMATS.md, "The printed sheet".
 -- Assumes nothing.
 use Rattle.std.specs.Prelude.{ℕ, ◌≡◌, refl, cond, List, [], ◌∷◌, ◌++◌, length, take, drop, leb}
-use Rattle.stretches.specs.Stretch.{Stretch, st}
+use Rattle.stretches.specs.declared.Stretch.{Stretch}
+use Rattle.stretches.specs.Stretch.{st}
 use Rattle.stretches.specs.Lent.{pairs}
 use Rattle.basics.specs.Decimal.{digits_of, decimal}
 
