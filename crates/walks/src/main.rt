@@ -8,8 +8,8 @@ ghost use Rattle.event_log.specs.Reading.{read_at};
 
 use basics::{first, wide};
 use event_log::Reading;
-use finder::Answer;
 use input::read_whole;
+use meaning::{Filled, Refusal};
 use reading_mark::{Mark, line_after, read_from};
 use records::Record;
 use std::io;
@@ -24,14 +24,15 @@ fn verdict(rt: &impl Print, w: Walked) -> io::Result<()> {
     }
 }
 
-// ── By steps ──
-
-fn gives(answer: Answer, stretch: [u32; 2]) -> bool {
-    match answer {
-        Answer::None => false,
-        Answer::Stretch { start, end } => [start, end] == stretch,
+// How many stretches a filling call wrote: of a refused one none.
+fn written(r: Result<Filled, Refusal>) -> usize {
+    match r {
+        Ok(filled) => filled.count,
+        Err(_) => 0,
     }
 }
+
+// ── By steps ──
 
 // Steps through the stretches of a pattern, those that were filled, and once more.
 fn step_through(pattern: &[u8], log: &[u8], filled: &[[u32; 2]]) -> Walked {
@@ -39,20 +40,23 @@ fn step_through(pattern: &[u8], log: &[u8], filled: &[[u32; 2]]) -> Walked {
     for (k, stretch) in filled.iter().enumerate() {
         let s = f.step(log);
         f = s.finder;
-        if !gives(s.answer, *stretch) {
-            return Err(k);
+        match s.answer {
+            Some(x) if [x.start, x.end] == *stretch => {}
+            _ => {
+                return Err(k);
+            }
         }
     }
     match f.step(log).answer {
-        Answer::None => Ok(filled.len()),
-        Answer::Stretch { .. } => Err(filled.len()),
+        None => Ok(filled.len()),
+        Some(_) => Err(filled.len()),
     }
 }
 
 fn steps(rt: &impl Print, pattern: &[u8], log: &[u8]) -> io::Result<()> {
     let mut cells = [0u32; 1024];
-    let r = finder::fill(pattern, log, &mut cells, 0);
-    let filled = first(cells.as_chunks().0, r.count);
+    let n = written(finder::fill(pattern, log, &mut cells, 0));
+    let filled = first(cells.as_chunks().0, n);
     rt.write_all(pattern)?;
     print!(rt; ": ")?;
     verdict(rt, step_through(pattern, log, filled))
@@ -142,7 +146,7 @@ fn by(rt: &impl Print, pattern: &[u8], how: &str, w: Walked) -> io::Result<()> {
 // A line by its number, by the place where it starts, and by a mark at the place where the line before it starts.
 fn lines_of(rt: &impl Print, pattern: &[u8], leaf: Leaf, log: &[u8]) -> io::Result<()> {
     let mut cells = [0u32; 1024];
-    let n = finder::fill(pattern, log, &mut cells, 0).count;
+    let n = written(finder::fill(pattern, log, &mut cells, 0));
     let filled = cells.as_chunks().0;
     let lines = lines::line_count(log);
     let number = read_through(lines, leaf, filled, n, |l| line_after(log, l.number));
