@@ -11,7 +11,6 @@ ghost use Rattle.walk.specs.Filling.{Filling, FillAll};
 ghost use Rattle.finder.specs.Promises.{fresh, open_reply, opened, list_in, waits, handed, line_after, refilled, stepped};
 
 use acceptance::read_both;
-use lines::LOG_MAX;
 use meaning::{Filled, Refusal};
 use nodes::{NODES, NO_NODE, Nodes};
 use plan::with_marks;
@@ -52,20 +51,20 @@ pub struct Stepped {
 
 // Writes the table's answers in the log that start at or after `line`, from number `from` of them on; a log that is too long has none.
 fn fill_from(rows: &Nodes, log: &[u8], cells: &mut [u32], line: u32, from: usize) -> Walked
-    requires { length rows.now ≡ 32 }
     ensures { Filling (onward (list_in rows.now log.now) line) from cells.old result cells.new }
 {
-    if LOG_MAX < log.len() {
-        return Walked {
-            count: 0,
-            more: false,
-        };
-    }
-    with_marks(rows, log, cells, |searched, cells|
+    let walked = with_marks(rows, log, cells, |searched, cells|
         ensures { FillAll (source_of searched.now) searched.now.rows.now line from cells.old result cells.new }
     {
         walk::fill(searched, cells, line, from)
-    })
+    });
+    match walked {
+        Some(walked) => walked,
+        None => Walked {
+            count: 0,
+            more: false,
+        },
+    }
 }
 
 // Writes the answers from number `from` into the cells, start then end, as many as whole pairs fit. Refused: nothing is written.

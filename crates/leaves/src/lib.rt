@@ -1,10 +1,11 @@
 // The different leaves of tables, numbered in the order in which they first come: `ev` with code and lane, and `fr` with frame and lane.
 #![tactic(auto)]
 
-ghost use Rattle.std.specs.Prelude.{◌≡◌, ◌≤◌, [], length};
+ghost use Rattle.std.specs.Prelude.{◌≡◌, ◌≤◌, ◌<◌, [], ◌∷◌, ◌++◌, length, take};
 ghost use Rattle.std.specs.List.{position};
 ghost use Rattle.leaves.specs.Leaves.{leaf_of, same_leaf, added, gathered};
 
+use basics::first;
 use nodes::{Node, Nodes, is_leaf};
 use std::marker::Model;
 
@@ -65,6 +66,17 @@ impl Leaves {
         }
     }
 
+    // The leaves that a caller has, of more than 64 the first 64.
+    pub fn of(known: &[Leaf]) -> Leaves
+        ensures { result ≡ take 64 known.now }
+    {
+        let mut leaves = Leaves::new();
+        for leaf in first(known, LEAVES) {
+            leaves.push(*leaf);
+        }
+        leaves
+    }
+
     // The leaves by their numbers.
     pub fn as_slice(&self) -> &[Leaf]
         ensures { (result.now ≡ self.now) × (length self.now ≤ 64) }
@@ -80,13 +92,20 @@ impl Leaves {
         self.as_slice().iter().position(|x| *x == leaf)
     }
 
+    fn push(&mut self, leaf: Leaf)
+        requires { length self.old < 64 }
+        ensures { self.new ≡ self.old ++ leaf ∷ [] }
+    {
+        self.list[self.count] = leaf;
+        self.count += 1;
+    }
+
     // Adds the leaf if it is not among them and there is room.
     fn add(&mut self, leaf: Leaf)
         ensures { self.new ≡ added self.old leaf }
     {
         if self.find(leaf).is_none() && self.count < LEAVES {
-            self.list[self.count] = leaf;
-            self.count += 1;
+            self.push(leaf);
         }
     }
 

@@ -75,11 +75,13 @@ impl<'a> Lists<'a> {
         &self.items[start_of(self.ends, i)..wide(self.ends[i])]
     }
 
-    // The last of the first `count` stretches of list i; none past its end.
+    // The last of the first `count` stretches of list i; none past its end, and where there is no list i.
     pub fn taken(&self, i: usize, count: u32) -> Option<Stretch>
-        requires { i < length self.now }
         ensures { result ≡ nth (get_or self.now i []) (count - 1) }
     {
+        if self.len() <= i {
+            return None;
+        }
         let list = self.list(i);
         let at = 2 * wide(count.saturating_sub(1));
         Some(Stretch {

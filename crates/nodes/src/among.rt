@@ -1,5 +1,5 @@
 // The operands of a node, one after another.
-ghost use Rattle.std.specs.Prelude.{◌≡◌, ◌<◌, ◌+◌, ◌-◌};
+ghost use Rattle.std.specs.Prelude.{◌≡◌, ◌≤◌, ◌<◌, ◌+◌, ◌-◌};
 ghost use Rattle.std.specs.Iterator.{at_most};
 ghost use Rattle.nodes.specs.Among.{Among, Gives};
 
@@ -22,14 +22,14 @@ impl<'a> Iterator for Operands<'a> {
     }
 }
 
-// The operands of node v.
+// The operands of node v; none where there is no node v.
 pub fn operands_of<'a>(rows: &'a Nodes, v: usize) -> Operands<'a>
-    requires { v < 32 }
-    ensures { Among rows.now v result × (result.at ≡ v + 1) }
+    ensures operands { v < 32 → Among rows.now v result × (result.at ≡ v + 1) }
+    ensures none { 32 ≤ v → result.stop ≤ result.at }
 {
     Operands {
         rows,
-        at: v + 1,
+        at: v.saturating_add(1),
         stop: stop_of(rows, v),
     }
 }

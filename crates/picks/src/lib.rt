@@ -126,15 +126,16 @@ fn pick_all(searched: &Searched, k: usize, cells: &mut [u32]) -> usize
 
 // In any log that is not too long.
 fn pick_in(rows: &Nodes, log: &[u8], k: usize, cells: &mut [u32]) -> usize
-    requires { (length rows.now ≡ 32) × (length log.now ≤ 61440) }
+    requires { length log.now ≤ 61440 }
     ensures { Wrote k (table_in rows.now log.now) cells.old result cells.new }
 {
-    with_marks(rows, log, cells, |searched, cells|
+    let picked = with_marks(rows, log, cells, |searched, cells|
         requires { Good (source_of searched.now) searched.now.rows.now }
         ensures { Wrote k (list_over (source_of searched.now) searched.now.rows.now 0) cells.old result cells.new }
     {
         pick_all(searched, k, cells)
-    })
+    });
+    picked.unwrap()
 }
 
 // Writes up to k picks of a pattern's answers in a log, in picking order, start then end, as many as whole pairs fit. Refused: nothing is written.

@@ -1,11 +1,12 @@
 // The log marked into words on the stack, few or many by its lines, for what is to run over the marks.
 #![tactic(auto)]
 
-ghost use Rattle.std.specs.Prelude.{◌≡◌, ◌≤◌, length, replicate};
+ghost use Rattle.std.specs.Prelude.{◌≡◌, ◌≤◌, ◌<◌, length, replicate, MatchOption};
 ghost use Rattle.plan.specs.Marks.{Marks};
 ghost use Rattle.plan.specs.inner.Room.{Roomy};
 
 use crate::{FEW, FEW_SOUND, FEW_WORDS, SOUND, WORDS, prepare, sound_words, width};
+use lines::LOG_MAX;
 use nodes::Nodes;
 use seek::Searched;
 
@@ -35,21 +36,24 @@ fn run_in<const WORDS: usize, const SOUND: usize, R, F: FnOnce(&Searched, &mut [
     run(&searched, cells)
 }
 
-// Marks the log's lines, and runs over the marks: in a log of few lines 32 KiB of words, and in one of any number 240 KiB.
+// Marks the log's lines, and runs over the marks: in a log of few lines 32 KiB of words, and in one of any number 240 KiB. In a log that is too long
+// nothing is run.
 pub fn with_marks<R, F: FnOnce(&Searched, &mut [u32]) -> R>(
     rows: &Nodes,
     log: &[u8],
     cells: &mut [u32],
     run: F,
-) -> R
-    requires brief { (length rows.now ≡ 32) × (length log.now ≤ 61440) }
-    requires runs { (s : _) (c : _) → Marks rows.now log.now s.now → F.pre run s c }
-    ensures { (s : _) × (c : _) × (d : _) × Marks rows.now log.now s.now × (c.now ≡ cells.old) × F.post run s c result d × (d.now ≡ cells.new) }
+) -> Option<R>
+    requires { (s : _) (c : _) → Marks rows.now log.now s.now → F.pre run s c }
+    ensures { MatchOption result ((61440 < length log.now) × (cells.new ≡ cells.old)) (λ r. (length log.now ≤ 61440) × (s : _) × (c : _) × (d : _) × Marks rows.now log.now s.now × (c.now ≡ cells.old) × F.post run s c r d × (d.now ≡ cells.new)) }
 {
+    if LOG_MAX < log.len() {
+        return None;
+    }
     let width = width(log);
     if width <= FEW {
-        run_in::<FEW_WORDS, FEW_SOUND, R, F>(rows, log, width, cells, run)
+        Some(run_in::<FEW_WORDS, FEW_SOUND, R, F>(rows, log, width, cells, run))
     } else {
-        run_in::<WORDS, SOUND, R, F>(rows, log, width, cells, run)
+        Some(run_in::<WORDS, SOUND, R, F>(rows, log, width, cells, run))
     }
 }

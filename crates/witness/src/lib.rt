@@ -140,15 +140,16 @@ fn show_answer(rows: &Nodes, searched: &Searched, number: usize, cells: &mut [u3
 
 // In any log that is not too long.
 fn show_in(rows: &Nodes, log: &[u8], number: usize, cells: &mut [u32]) -> usize
-    requires { (length rows.now ≡ 32) × (length log.now ≤ 61440) }
+    requires { length log.now ≤ 61440 }
     ensures { TableShown rows.now log.now number cells.old result cells.new }
 {
-    with_marks(rows, log, cells, |searched, cells|
+    let shown = with_marks(rows, log, cells, |searched, cells|
         requires { Good (source_of searched.now) searched.now.rows.now }
         ensures { AnswerShown (source_of searched.now) searched.now.rows.now rows.entry.now number cells.old result cells.new }
     {
         show_answer(rows, searched, number, cells)
-    })
+    });
+    shown.unwrap()
 }
 
 // Writes the nodes that took part in answer number `number` (the first is 0) of a pattern in a log, in node order, each as node, start, end, as many as whole

@@ -2,8 +2,8 @@
 use Rattle.finder.proofs.Calls.{long-none, marks-fill}
 use Rattle.finder.proofs.fill_from.Goals as goal
 
-pub returns-then-log-gt-LOG_MAX : goal.returns-then-log-gt-LOG_MAX
-returns-then-log-gt-LOG_MAX c = long-none _ _ _ _ _ c.if-log-gt-LOG_MAX.true
+pub returns-in-Some : goal.returns-in-Some
+returns-in-Some c = let h = c.in-Some.ensures in marks-fill h.4 h.0 h.6 h.5 h.7
 
-pub returns : goal.returns
-returns c = let h = c.with_marks.ensures in marks-fill h.3 c.if-log-gt-LOG_MAX.false h.5 h.4 h.6
+pub returns-in-None : goal.returns-in-None
+returns-in-None c = let h = c.in-None.ensures in rw h.1 (long-none _ _ _ _ _ h.0)

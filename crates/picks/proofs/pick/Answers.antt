@@ -1,5 +1,4 @@
 -- `picks::pick` meets its contract. Assumes nothing.
-use borrow.Author.Rules.{rules}
 use native.Mathlib.Omega.{arith}
 use Rattle.std.proofs.lemmas.Result.{err_from_is_err_and}
 use Rattle.picks.proofs.Picking.{pick-refused, pick-miscounted, count-low, count-high, pick-brief, pick-done}
@@ -20,7 +19,7 @@ returns-then-k-lt1 c =
     record { value = g.0; cells_after = g.1 }
 
 pub pick_in-requires : goal.pick_in-requires
-pick_in-requires c = (search rules, pick-brief c.args.text.now c.args.log.now c.args.k c.args.cells.now c.in_ok-rows.ensures.signal)
+pick_in-requires c = pick-brief c.args.text.now c.args.log.now c.args.k c.args.cells.now c.in_ok-rows.ensures.signal
 
 pub returns : goal.returns
 returns c =

@@ -1,5 +1,4 @@
 -- `witness::show` meets its contract. Assumes nothing.
-use borrow.Author.Rules.{rules}
 use Rattle.std.proofs.lemmas.Result.{err_from_is_err_and}
 use Rattle.witness.proofs.Answering.{show-refused, show-brief, show-done}
 use Rattle.witness.proofs.show.Goals as goal
@@ -11,7 +10,7 @@ returns-in_err-rows c =
     record { value = rw (p.1, p.2) r.0; cells_after = r.1 }
 
 pub show_in-requires : goal.show_in-requires
-show_in-requires c = (search rules, show-brief c.args.text.now c.args.log.now c.args.number c.args.cells.now c.in_ok-rows.ensures.signal)
+show_in-requires c = show-brief c.args.text.now c.args.log.now c.args.number c.args.cells.now c.in_ok-rows.ensures.signal
 
 pub returns : goal.returns
 returns c =

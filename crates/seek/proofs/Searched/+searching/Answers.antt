@@ -28,7 +28,7 @@ Behind rows v s = Among rows v s × (s.at ≡ next_of rows (v + 1))
 -- ── `seek_or` ──
 
 pub seek_or-loop-c-init : goal.seek_or-loop-c-init
-seek_or-loop-c-init t c = let o = subst (Begun c.args.self.now.rows.now c.args.v) (sym c.into_iter-c-iterator.ensures.into_iter_gives) c.operands_of-c-items.ensures in (o.0, or-start (omega (arith, c.requires)) o.1)
+seek_or-loop-c-init t c = let o = subst (Begun c.args.self.now.rows.now c.args.v) (sym c.into_iter-c-iterator.ensures.into_iter_gives) (c.operands_of-c-items.ensures.operands (omega (arith, c.requires))) in (o.0, or-start (omega (arith, c.requires)) o.1)
 
 pub seek_or-loop-c-preserved : goal.seek_or-loop-c-preserved
 seek_or-loop-c-preserved t c = let o = given c.loop-c.invariant.0 c.in-Some.ensures.steps in (o.among, or_turn (omega (arith, c.requires)) c.loop-c.invariant.1 o c.seek.ensures c.better-best.ensures)
@@ -39,7 +39,7 @@ seek_or-returns t c = λ k. or-end c.loop-c.invariant.1 (all_given c.loop-c.inva
 -- ── `span` ──
 
 pub span-loop-c-init : goal.span-loop-c-init
-span-loop-c-init t c = let o = subst (Begun c.args.self.now.rows.now c.args.v) (sym c.into_iter-c-iterator.ensures.into_iter_gives) c.operands_of-c-items.ensures in (o.0, span-start c.requires.0 c.requires.1 o.1)
+span-loop-c-init t c = let o = subst (Begun c.args.self.now.rows.now c.args.v) (sym c.into_iter-c-iterator.ensures.into_iter_gives) (c.operands_of-c-items.ensures.operands c.requires.0) in (o.0, span-start c.requires.0 c.requires.1 o.1)
 
 pub span-returns-then-f-ge-NONE : goal.span-returns-then-f-ge-NONE
 span-returns-then-f-ge-NONE t c = λ k. span-gone c.requires.0 c.loop-c.invariant.1 (given c.loop-c.invariant.0 c.in-Some.ensures.steps) c.seek-f.ensures c.if-f-ge-NONE.true refl k
@@ -57,7 +57,7 @@ chain-returns-then-a-ge-NONE t c = λ k. chain-gone c.requires.0 c.requires.1 c.
 
 pub chain-loop-c-init : goal.chain-loop-c-init
 chain-loop-c-init t c =
-    let h = first_given c.next.result c.operands_of-rest.ensures.0 c.operands_of-rest.ensures.1 c.requires.1 c.next.ensures.steps in
+    let h = first_given c.next.result (c.operands_of-rest.ensures.operands c.requires.0).0 (c.operands_of-rest.ensures.operands c.requires.0).1 c.requires.1 c.next.ensures.steps in
     let o = subst (Behind c.args.self.now.rows.now c.args.v) (sym c.into_iter-c-iterator.ensures.into_iter_gives) h in
     (o.0, chain-start o.1)
 
