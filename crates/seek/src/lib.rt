@@ -13,7 +13,7 @@ ghost use Rattle.seek.specs.Source.{source_of};
 ghost use Rattle.seek.specs.First.{FirstOf, ReachOf, Ahead};
 
 use nodes::{NODES, Nodes};
-pub use state::State;
+pub use state::{Kept, Passed, State};
 use stretches::Stretch;
 
 // The line that stands for none, one past every line.

@@ -10,24 +10,24 @@ use stretches::Stretch;
 // Of a node: one past the start of what was found last (0: nothing), its end, and the line asked from; and over lists a place in the items, only a hint.
 #[derive(Clone, Copy)]
 pub struct Kept {
-    past: u32,
-    end: u32,
-    asked: u32,
-    pub(crate) hint: u32,
+    pub past: u32,
+    pub end: u32,
+    pub asked: u32,
+    pub hint: u32,
 }
 
 // How far a node was passed over by end: what of it starts before line `to` ends before line `end`.
 #[derive(Clone, Copy)]
 pub struct Passed {
-    to: u32,
-    end: u32,
+    pub to: u32,
+    pub end: u32,
 }
 
 // What is kept of all nodes. As six columns of numbers it took 1 to 3 in 100 fewer instructions of a search, and the places in the columns by hand.
 #[derive(Drop)]
 pub struct State {
-    pub(crate) kept: [Kept; NODES],
-    passed: [Passed; NODES],
+    pub kept: [Kept; NODES],
+    pub passed: [Passed; NODES],
 }
 
 impl Kept {
