@@ -133,6 +133,11 @@ record Partway (rows : List stretches.Node) (v : ℕ) (x : Stretch) (n : ℕ) (c
 pub record Midway (src : Source) (table rows : List stretches.Node) (v : ℕ) (f : Stretch) (n : ℕ) (cells : List ℕ) (each chain by_end later : Bool) (c t k : ℕ) (cells' : List ℕ) : Type 0 where
   at : (ls : List Line) (p : Pattern) → Stands src table rows ls v p → In f.start f.end (answers_of p ls) → Partway rows v f n cells each chain by_end later c t k cells' ls p
 
+-- the operand that is given stands where the ones before end
+pub midway_at : {src : Source} {table rows : List stretches.Node} {v : ℕ} {f : Stretch} {n : ℕ} {cells : List ℕ} {each chain by_end later : Bool} {a c t k : ℕ} {cells' : List ℕ}
+    → c ≡ a → Midway src table rows v f n cells each chain by_end later a t k cells' → Midway src table rows v f n cells each chain by_end later c t k cells'
+midway_at {src} {table} {rows} {v} {f} {n} {cells} {each} {chain} {by_end} {later} {t = t} {k = k} {cells' = cells'} e m = subst (λ (b : ℕ). Midway src table rows v f n cells each chain by_end later b t k cells') (sym e) m
+
 -- a leaf
 pub node-leaf : {src : Source} {table rows : List stretches.Node} {v : ℕ} {f : Stretch} {n : ℕ} {cells : List ℕ} {k : ℕ} {cells' : List ℕ}
     → Grown (shows v f ∷ []) n cells k cells' → leaf_kind (kind_at rows v) ≡ true → ShownAt src table rows v f n cells k cells'

@@ -13,7 +13,7 @@ ghost use Rattle.witness.specs.inner.Showing.{Grown, operand_of, ShownAt, Answer
 
 use acceptance::read_both;
 use meaning::Refusal;
-use nodes::{AND, IN, Nodes, is_chain, is_leaf, is_proof, next_of, stop_of};
+use nodes::{AND, IN, Nodes, is_chain, is_leaf, is_proof, operands_of};
 use plan::with_marks;
 use seek::{Searched, State};
 use stretches::Stretch;
@@ -98,14 +98,11 @@ fn show_node(
     let each = shows_each(kind);
     let chain = is_chain(kind);
     let later = kind == IN;
-    let stop = stop_of(rows, v);
-    let mut c = v + 1;
     let mut t = f.start;
     let mut enclosing = false;
-    while c < stop {
+    for c in operands_of(rows, v) {
         let found = operand(searched, st, c, t, enclosing, f);
         enclosing = later;
-        let next = next_of(rows, c);
         if let Some(g) = found {
             k = show_node(rows, searched, st, cells, c, g, k);
             if !each {
@@ -113,7 +110,6 @@ fn show_node(
             }
             t = after(chain, t, g.end);
         }
-        c = next;
     }
     k
 }

@@ -1,5 +1,6 @@
 -- The measure: `show_node` calls itself for operands, whose numbers are higher. And what the loop keeps: the operands before c have shown their part. Assumes nothing.
-use Rattle.std.proofs.Common.{◌-◌, ◌<◌}
+use Rattle.std.proofs.Common.{◌-◌}
+use Rattle.nodes.specs.Among.{Among}
 use Rattle.seek.specs.Source.{source_of}
 use Rattle.seek.specs.First.{Ready}
 use Rattle.witness.proofs.Showing.{Midway}
@@ -10,7 +11,4 @@ decreases-show_node l = 32 - l.v
 
 abbrev pub invariant-loop-c : goal.invariant-loop-c
 invariant-loop-c l =
-    (l.v < l.c) × Ready (source_of l.searched) l.searched.rows.now l.st × Midway (source_of l.searched) l.searched.rows.now l.rows l.v l.f l.initial.k l.initial.cells l.each l.chain l.enclosing l.later l.c l.t l.k l.cells
-
-abbrev pub decreases-loop-c : goal.decreases-loop-c
-decreases-loop-c l = 32 - l.c
+    Among l.rows l.v l.c-iterator × Ready (source_of l.searched) l.searched.rows.now l.st × Midway (source_of l.searched) l.searched.rows.now l.rows l.v l.f l.initial.k l.initial.cells l.each l.chain l.enclosing l.later l.c-iterator.at l.t l.k l.cells
