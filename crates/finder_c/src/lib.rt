@@ -9,18 +9,11 @@ ghost use Rattle.picks.specs.Picking.{picks_in, picking};
 ghost use Rattle.witness.specs.Witness.{shown_in, filled_shown, witnessing};
 ghost use Rattle.lists.specs.Filling.{fill_result, fill_cells};
 ghost use Rattle.taking.specs.Taking.{take_reply, take_result, take_cells};
-ghost use Rattle.finder_c.specs.Packing.{packed_fill, packed_reply, packed_taken, packed_count, packed_lines, bit};
+ghost use Rattle.finder_c.specs.Packing.{packed_fill, packed_reply, packed_taken, packed_count, packed_lines};
 
 use lines::LOG_MAX;
 use meaning::{Filled, Refusal};
 use stretches::Stretch;
-
-// The bit of a flag.
-fn flag(b: bool) -> u64
-    ensures { (result ≡ bit b) × (result ≤ 1) }
-{
-    if b { 1 } else { 0 }
-}
 
 // The result of a filling call in one number.
 fn packed(r: Result<Filled, Refusal>) -> u64
@@ -28,7 +21,7 @@ fn packed(r: Result<Filled, Refusal>) -> u64
     ensures { result ≡ packed_fill (fill_reply r) }
 {
     match r {
-        Ok(f) => 256 * flag(f.more) + 4294967296 * (f.count as u64),
+        Ok(f) => 256 * u64::from(f.more) + 4294967296 * (f.count as u64),
         Err(e) => e.number() as u64 + 65536 * (e.place() as u64),
     }
 }
