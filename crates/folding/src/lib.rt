@@ -8,7 +8,7 @@ ghost use Rattle.stretches.specs.Table.{operand_numbers};
 ghost use Rattle.folding.specs.Fold.{folding, is_row, rows_before, with_leaf, fold_or, max_folded, fold_node, folded};
 ghost use Rattle.folding.specs.inner.Uniting.{united_all};
 
-use nodes::{MARKS, MAX, NODES, Node, Nodes, OR, next_of, stop_of};
+use nodes::{MARKS, MAX, NODES, Node, Nodes, OR, operands_of, stop_of};
 
 // Whether the node is a row of this width that ends at or before place `free`.
 fn is_row(node: Node, width: usize, free: usize) -> bool
@@ -17,18 +17,15 @@ fn is_row(node: Node, width: usize, free: usize) -> bool
     node.kind == MARKS && node.second == width && width <= free && node.first <= free - width
 }
 
-// Whether all of v's operands are. The loops over operands are `while`: where the next one stands, the table says.
+// Whether all of v's operands are.
 fn all_rows(rows: &Nodes, width: usize, free: usize, v: usize) -> bool
     requires { v < 32 }
     ensures { result ≡ rows_before rows.now width free (operand_numbers rows.now v) }
 {
-    let stop = stop_of(rows, v);
-    let mut c = v + 1;
-    while c < stop {
+    for c in operands_of(rows, v) {
         if !is_row(rows[c], width, free) {
             return false;
         }
-        c = next_of(rows, c);
     }
     true
 }
@@ -38,11 +35,8 @@ fn unite_all(rows: &Nodes, words: &mut [u64], to: usize, width: usize, v: usize)
     requires { v < 32 }
     ensures { words.new ≡ united_all rows.now words.old to width (operand_numbers rows.now v) }
 {
-    let stop = stop_of(rows, v);
-    let mut u = v + 1;
-    while u < stop {
+    for u in operands_of(rows, v) {
         row_union::unite(words, to, rows[u].first, width);
-        u = next_of(rows, u);
     }
 }
 
