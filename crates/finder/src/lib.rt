@@ -12,7 +12,7 @@ ghost use Rattle.finder.specs.Promises.{fresh, open_reply, opened, list_in, wait
 
 use acceptance::read_both;
 use meaning::{Filled, Refusal};
-use nodes::{NODES, NO_NODE, Nodes};
+use nodes::{NO_NODE, NODES, Nodes};
 use plan::with_marks;
 use stretches::Stretch;
 use walk::Walked;
@@ -53,11 +53,14 @@ pub struct Stepped {
 fn fill_from(rows: &Nodes, log: &[u8], cells: &mut [u32], line: u32, from: usize) -> Walked
     ensures { Filling (onward (list_in rows.now log.now) line) from cells.old result cells.new }
 {
-    let walked = with_marks(rows, log, cells, |searched, cells|
-        ensures { FillAll (source_of searched.now) searched.now.rows.now line from cells.old result cells.new }
-    {
-        walk::fill(searched, cells, line, from)
-    });
+    let walked = with_marks(
+        rows,
+        log,
+        cells,
+        |searched, cells|
+            ensures { FillAll (source_of searched.now) searched.now.rows.now line from cells.old result cells.new }
+        { walk::fill(searched, cells, line, from) },
+    );
     match walked {
         Some(walked) => walked,
         None => Walked {
@@ -103,11 +106,7 @@ fn line_after(line: u32, found: &[u32; FOUND], n: usize) -> u32
     requires { (n ≤ 64) × (0 < n → get_or found.now (2 * (n - 1)) 0 < 65536) }
     ensures { result ≡ line_after line found.now n }
 {
-    if n == 0 {
-        line
-    } else {
-        found[2 * (n - 1)] + 1
-    }
+    if n == 0 { line } else { found[2 * (n - 1)] + 1 }
 }
 
 impl Finder {

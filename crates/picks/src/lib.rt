@@ -71,13 +71,7 @@ fn better(best: Option<Stretch>, f: Stretch) -> Option<Stretch>
 {
     match best {
         None => Some(f),
-        Some(b) => {
-            if is_ahead(f, b) {
-                Some(f)
-            } else {
-                best
-            }
-        }
+        Some(b) => { if is_ahead(f, b) { Some(f) } else { best } }
     }
 }
 
@@ -129,12 +123,15 @@ fn pick_in(rows: &Nodes, log: &[u8], k: usize, cells: &mut [u32]) -> usize
     requires { length log.now ≤ 61440 }
     ensures { Wrote k (table_in rows.now log.now) cells.old result cells.new }
 {
-    let picked = with_marks(rows, log, cells, |searched, cells|
-        requires { Good (source_of searched.now) searched.now.rows.now }
-        ensures { Wrote k (list_over (source_of searched.now) searched.now.rows.now 0) cells.old result cells.new }
-    {
-        pick_all(searched, k, cells)
-    });
+    let picked = with_marks(
+        rows,
+        log,
+        cells,
+        |searched, cells|
+            requires { Good (source_of searched.now) searched.now.rows.now }
+            ensures { Wrote k (list_over (source_of searched.now) searched.now.rows.now 0) cells.old result cells.new }
+        { pick_all(searched, k, cells) },
+    );
     picked.unwrap()
 }
 

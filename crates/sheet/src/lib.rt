@@ -10,12 +10,7 @@ use print::{write_found, write_refused};
 
 // Writes the sheet of what a filling call from number 0 returned and left in the cells, and gives its length. Where the
 // sheet does not fit, nothing is written and 0 comes back.
-pub fn write_sheet(
-    f: Result<Filled, Refusal>,
-    log: &[u8],
-    cells: &[u32],
-    out: &mut [u8],
-) -> usize
+pub fn write_sheet(f: Result<Filled, Refusal>, log: &[u8], cells: &[u32], out: &mut [u8]) -> usize
     ensures { Writes (sheet_of (fill_reply f) log.now cells.now) out.old result out.new }
 {
     match f {

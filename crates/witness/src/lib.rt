@@ -139,12 +139,15 @@ fn show_in(rows: &Nodes, log: &[u8], number: usize, cells: &mut [u32]) -> usize
     requires { length log.now ≤ 61440 }
     ensures { TableShown rows.now log.now number cells.old result cells.new }
 {
-    let shown = with_marks(rows, log, cells, |searched, cells|
-        requires { Good (source_of searched.now) searched.now.rows.now }
-        ensures { AnswerShown (source_of searched.now) searched.now.rows.now rows.entry.now number cells.old result cells.new }
-    {
-        show_answer(rows, searched, number, cells)
-    });
+    let shown = with_marks(
+        rows,
+        log,
+        cells,
+        |searched, cells|
+            requires { Good (source_of searched.now) searched.now.rows.now }
+            ensures { AnswerShown (source_of searched.now) searched.now.rows.now rows.entry.now number cells.old result cells.new }
+        { show_answer(rows, searched, number, cells) },
+    );
     shown.unwrap()
 }
 

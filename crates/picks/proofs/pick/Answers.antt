@@ -14,7 +14,8 @@ returns-in_err-rows c =
 pub returns-then-k-lt1 : goal.returns-then-k-lt1
 returns-then-k-lt1 c =
     let g = pick-miscounted c.args.text.now c.args.log.now c.args.k c.args.cells.now c.in_ok-rows.ensures.signal (elim c.then-k-lt1.branch [
-      then-k-lt1-via-then-k-lt1 w ↦ count-low c.args.k w.if-k-lt1.true | then-k-lt1-via-else-k-lt1+then-k-gt-MOST w ↦ count-high c.args.k w.if-k-gt-MOST.true
+      | then-k-lt1-via-then-k-lt1 w ↦ count-low c.args.k w.if-k-lt1.true
+      | then-k-lt1-via-else-k-lt1+then-k-gt-MOST w ↦ count-high c.args.k w.if-k-gt-MOST.true
     ]) in
     record { value = g.0; cells_after = g.1 }
 

@@ -26,7 +26,7 @@ loop-f-preserved c = let s = c.args.searched.now in
     let take = λ (h : Short c.in-Some.f c.loop-f.next). pass-take (source_of s) s.rows.now (held_in c.args.cells.now c.args.n) c.requires.0 c.requires.2 c.loop-f.invariant c.in-Some.ensures.first_of refl h c.better-best.ensures in
     let on = λ (r : Front). Pass (source_of s) s.rows.now (held_in c.args.cells.now c.args.n) c.first.new.st c.better-best.result r (c.in-Some.f.start + 1) in
     elim c.in_default-next.branch [
-      in_default-next-via-in-Some-next+else-p-f w ↦ subst on (sym w.next-is) (subst on w.in-Some-next.is (take (subst (Short c.in-Some.f) (sym w.in-Some-next.is) w.if-p-f.false)))
+      | in_default-next-via-in-Some-next+else-p-f w ↦ subst on (sym w.next-is) (subst on w.in-Some-next.is (take (subst (Short c.in-Some.f) (sym w.in-Some-next.is) w.if-p-f.false)))
       | in_default-next-via-in_default-next w ↦ subst on (sym w.next-is) (take (short-none c.in-Some.f c.loop-f.next w.in_default-next.not-Some))
     ]
 
