@@ -33,7 +33,7 @@ fn packed_reply(r: Result<usize, Refusal>) -> u64
 {
     match r {
         Ok(count) => 4294967296 * (count as u64),
-        Err(e) => e.number() as u64 + 65536 * (e.place() as u64),
+        Err(refusal) => refusal.number() as u64 + 65536 * (refusal.place() as u64),
     }
 }
 
