@@ -21,7 +21,7 @@ const CONSTANT: Chart = Chart { file: "crates/digits/src/lib.rt", rows: constant
 const BOTH: [Chart; 2] = [PRINTED, CONSTANT];
 
 /// Where the constant begins.
-const DECLARED: &str = "const CHART: [[u32; 10]; 5] =";
+const DECLARED: &str = "const CHART: Chart =";
 
 /// A number with its thousands parted by a comma.
 fn grouped(n: u32) -> String {
