@@ -4,7 +4,7 @@ use mathlib.Core.Path.{◌≡◌, refl, sym, ap, ap₂, subst, ◌∙◌}
 use mathlib.Core.Bool.{Bool, true, false, cond}
 use mathlib.Core.List.{List, []}
 use lib.ListN.{length, replicate}
-use borrow.Author.Tests.{le-ltb}
+use borrow.Author.Tests.{lt-ltb, le-ltb}
 use native.Mathlib.Omega.{arith}
 use Rattle.std.specs.Prelude.{Result, Ok, Err}
 use Rattle.std.specs.Result.{result_map_both}
@@ -54,13 +54,21 @@ module _ (text log : List ℕ) where
   pub read-accepted : (t : Table) → length log ≤ 61440 → ReadGives text (Ok t) → accepted ≡ refusal text log
   read-accepted t h g = let a = read-accepts text t g in sym (good-pattern text log a.0 h a.1)
 
-  -- what is signalled of a log that is too long, and by what the text is read as of any other
-  pub read-long : 61440 < length log → signal {A = List Node} (Err LongLog) ≡ refusal text log
-  read-long h = sym (long-log text log h)
+  -- of a log that is too long the refusal is 1, and the table zeros; of any other the answer is by what the text is read as, and so is the table
+  pub read-long : 61440 < length log → (signal {A = List Node} (Err LongLog) ≡ refusal text log) × (replicate 32 no_node ≡ rows_in text log)
+  read-long h = (sym (long-log text log h), sym (ap (λ b. cond b (replicate 32 no_node) (table_of (outcome_of text)).rows) (lt-ltb 61440 (length log) h)))
 
-  pub read_short : (r : Result Table pattern.Refusal) → length log ≤ 61440 → ReadGives text r → signal (result_map_both (λ (t : Table). t.rows) told r) ≡ refusal text log
-  read_short (Ok t) h g = read-accepted t h g
-  read_short (Err v) h g = read-refused v h g
+  -- the rows that an answer leaves: of a refusal zeros
+  abbrev pub rows_read : Result Table pattern.Refusal → List Node
+  rows_read (Ok t) = t.rows
+  rows_read (Err v) = replicate 32 no_node
+
+  pub read_short : (r : Result Table pattern.Refusal) → length log ≤ 61440 → ReadGives text r
+      → (signal (result_map_both (λ (t : Table). t.rows) told r) ≡ refusal text log) × (rows_read r ≡ rows_in text log)
+  read_short (Ok t) h g =
+      let a = read-accepts text t g in
+      (read-accepted t h g, ap (λ (t : Table). t.rows) a.2 ∙ (ap (λ (o : Outcome). (table_of o).rows) (sym a.1) ∙ rows_short h))
+  read_short (Err v) h g = (read-refused v h g, ap (λ (o : Outcome). (table_of o).rows) (sym (read-refuses text v g)) ∙ rows_short h)
 
   -- of an accepted call the log is not too long, the pattern stands in the table, and the list is the pattern's
   pub record AcceptedTree : Type 0 where

@@ -2,13 +2,13 @@
 use Prim.Native.Nat.{ℕ, zero, suc, ◌+◌, ◌-◌, ◌*◌, ◌≤◌, ◌<◌}
 use mathlib.Core.Path.{◌≡◌, refl, sym, ap, ap₂, subst, subst₂, ◌∙◌}
 use mathlib.Core.Logic.{inl, inr}
-use mathlib.Core.Bool.{Bool, true, false, not, cond, ◌||◌}
+use mathlib.Core.Bool.{false, cond}
 use mathlib.Core.List.{List, [], ◌∷◌, ◌++◌, map}
 use lib.ListN.{length, get_or, take, drop, length-map, length-take}
 use lib.Dec.{ltb, eqb}
 use borrow.Author.Tests.{lt-ltb, le-ltb, ltb-false}
 use native.Mathlib.Omega.{arith}
-use Rattle.basics.proofs.Basics.{cases, and-true}
+use Rattle.basics.proofs.Basics.{cases}
 use Rattle.stretches.specs.declared.Node.{Node}
 use Rattle.stretches.specs.declared.Stretch.{Stretch}
 use Rattle.stretches.specs.Stretch.{Fine, In}
@@ -20,7 +20,7 @@ use Rattle.stretches.proofs.Steps.{in-onward, onward-all}
 use Rattle.stretches.proofs.Table.{fine-list}
 use Rattle.records.specs.Line.{says}
 use Rattle.meaning.specs.Meaning.{hits, over_table, table_in}
-use Rattle.std.specs.Prelude.{Option, Ok, Err, Some, None, replicate}
+use Rattle.std.specs.Prelude.{Ok, Err, Some, None, replicate}
 use Rattle.meaning.specs.declared.Refusal.{Refusal}
 use Rattle.meaning.specs.Refusals.{Signal, refused, accepted, long_log, refusal}
 use Rattle.meaning.specs.Finding.{list_of, filling}

@@ -75,12 +75,17 @@ pub fn fill(text: &[u8], log: &[u8], cells: &mut [u32], from: usize) -> Result<F
     ensures value { fill_reply result ≡ filling text.now log.now from cells.old }
     ensures cells_after { cells.new ≡ filled (list_of text.now log.now) from cells.old }
 {
-    let rows = read_both(text, log)?;
-    let w = fill_from(&rows, log, cells, 0, from);
-    Ok(Filled {
-        count: w.count,
-        more: w.more,
-    })
+    // By reference: taken out of the Result, the table stands on the stack once more.
+    match &read_both(text, log) {
+        Ok(rows) => {
+            let w = fill_from(rows, log, cells, 0, from);
+            Ok(Filled {
+                count: w.count,
+                more: w.more,
+            })
+        }
+        Err(refusal) => Err(*refusal),
+    }
 }
 
 // ── Opening and stepping ──

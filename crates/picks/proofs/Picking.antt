@@ -7,15 +7,14 @@ use mathlib.Core.List.{List, [], ◌∷◌, ◌++◌}
 use lib.ListN.{length, set, take, drop, length-take, length-drop}
 use lib.Seq.{take_at}
 use lib.Dec.{leb, eqb}
-use borrow.Author.Tests.{le-leb, lt-leb, eqb-true, eqb-false, eq-eqb}
+use borrow.Author.Tests.{le-leb, lt-leb, eqb-true, eq-eqb}
 use native.Mathlib.Omega.{arith}
 use Rattle.basics.proofs.Basics.{cases, true-and, le-or-lt}
 use Rattle.stretches.specs.declared.Stretch.{Stretch}
-use Rattle.stretches.specs.Stretch.{st, In}
+use Rattle.stretches.specs.Stretch.{In}
 use Rattle.stretches.specs.Front.{Front, None, Some, head_of, nth}
 use Rattle.stretches.specs.Filling.{flat, pairs_in, written, filled}
 use Rattle.stretches.specs.Lent.{pairs}
-use Rattle.stretches.proofs.Lists.{in-keep}
 use Rattle.stretches.proofs.Filling.{length-flat, pairs-flat, Partly, partly_more, partly-done, partly-all}
 use Rattle.meaning.specs.Meaning.{table_in}
 use Rattle.meaning.specs.Refusals.{Signal, refused, accepted, bad_count, refusal, pick_refusal}
@@ -31,10 +30,10 @@ use Rattle.acceptance.specs.Readied.{rows_in}
 use Rattle.acceptance.proofs.Reading.{table-list}
 use Rattle.seek.specs.Source.{Source, list_over, Good}
 use Rattle.picks.specs.Picking.{picks_in, picking}
-use Rattle.picks.specs.Picks.{shortest, picks_of}
-use Rattle.picks.specs.inner.Remaining.{clear, remaining, shortest_of}
+use Rattle.picks.specs.Picks.{picks_of}
+use Rattle.picks.specs.inner.Remaining.{remaining, shortest_of}
 use Rattle.picks.specs.inner.Passes.{held_in, Lying, Wrote}
-use Rattle.picks.proofs.Laws.{shortest-in, picks-answers, pick-number, picks-take, picks-most, picks-few, few-none}
+use Rattle.picks.proofs.Laws.{picks-answers, pick-number, picks-take, picks-most, picks-few, few-none}
 use Rattle.picks.proofs.Passes.{answers-lie}
 
 module _ (src : Source) (rows : List Node) (good : Good src rows) (k : ℕ) (cells₀ : List ℕ) where

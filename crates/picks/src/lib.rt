@@ -140,9 +140,14 @@ pub fn pick(text: &[u8], log: &[u8], k: usize, cells: &mut [u32]) -> Result<usiz
     ensures value { reply result ≡ picking text.now log.now k cells.old }
     ensures cells_after { cells.new ≡ filled (picks_in text.now log.now k) 0 cells.old }
 {
-    let rows = read_both(text, log)?;
+    // By reference: taken out of the Result, the table stands on the stack once more.
+    let read = read_both(text, log);
+    let rows = match &read {
+        Ok(rows) => rows,
+        Err(refusal) => return Err(*refusal),
+    };
     if k < 1 || MOST < k {
         return Err(Refusal::BadCount);
     }
-    Ok(pick_in(&rows, log, k, cells))
+    Ok(pick_in(rows, log, k, cells))
 }

@@ -1,9 +1,9 @@
 -- What `max` measures over a prepared table: the sound lines, by their row, which is there where a node is a `max`. Assumes nothing.
-use Prim.Native.Nat.{ℕ, ◌+◌, ◌*◌, ◌≤◌, ◌<◌}
+use Prim.Native.Nat.{ℕ, zero, suc, ◌+◌, ◌*◌, ◌≤◌, ◌<◌}
 use mathlib.Core.Path.{◌≡◌, refl, sym, ap, ap₂, ◌∙◌}
 use mathlib.Core.Logic.{◌⊎◌, inl, inr}
 use mathlib.Core.Bool.{Bool, true, false, cond, ◌&&◌}
-use mathlib.Core.List.{List, map}
+use mathlib.Core.List.{List, [], ◌∷◌, map}
 use native.Mathlib.Omega.{arith}
 use lib.ListN.{length, length-map}
 use lib.Dec.{eqb}
@@ -27,6 +27,12 @@ use Rattle.marking.specs.Rows.{sound_marked}
 use Rattle.marking.proofs.SoundRow.{sound-length, sound-whole}
 use Rattle.plan.specs.Plan.{has_max, sound_words}
 
+-- a node that is a `max` stands in the table: where there is none, the kind is 0
+max-stands : (rows : List Node) (v : ℕ) → kind_at rows v ≡ 6 → v < length rows
+max-stands [] v e = absurd (omega (arith, e))
+max-stands (x ∷ rows) zero e = omega arith
+max-stands (x ∷ rows) (suc v) e = omega (arith, max-stands rows v e)
+
 -- one node that is a `max`
 max-among : (rows : List Node) (v : ℕ) → v < length rows → kind_at rows v ≡ 6 → has_max rows ≡ true
 max-among rows v h e = list_any_at (λ n. eqb n.kind 6) rows v no_node h (eq-eqb (kind_at rows v) 6 e)
@@ -36,7 +42,7 @@ sound-kept : (rows : List Node) (w : ℕ) {b : Bool} → w ≤ 1024 → has_max 
 sound-kept rows w h e = sym (ap₂ (λ a b. cond (a && b) (w + w) 0) (le-leb w 1024 h) e)
 
 -- over the words of the sound lines' row
-module _ (rows : List Node) (long : length rows ≡ 32) (ls : List Line) (w : ℕ) (sound : List ℕ) (narrow : w ≤ 1024) (lines : length ls ≤ 64 * w) (fits : length sound ≡ sound_words rows w) where
+module _ (rows : List Node) (ls : List Line) (w : ℕ) (sound : List ℕ) (narrow : w ≤ 1024) (lines : length ls ≤ 64 * w) (fits : length sound ≡ sound_words rows w) where
   abbrev row-of-sound : List ℕ
   row-of-sound = sound_marked ls sound
 
@@ -62,7 +68,7 @@ module _ (rows : List Node) (long : length rows ≡ 32) (ls : List Line) (w : �
   -- what a `max` measures by it is the number of sound lines
   pub sound-measures : (v : ℕ) → v < 32 → kind_at rows v ≡ 6 → Measures (length ls) (measured_by row-of-sound) (measure_in ls)
   sound-measures v lv k s e h l =
-      let r = with_max (max-among rows v (omega (arith, long)) k) in
+      let r = with_max (max-among rows v (max-stands rows v k) k) in
       measured-row row-of-sound (st s e) (λ z. omega (arith, ap length r, ranked-length w sound-flags))
       ∙ count-ranked w sound-flags row-of-sound r narrow s e h (omega (arith, length-map ls is_sound)) (omega (arith, length-map ls is_sound))
       ∙ count-lines is_sound sound_lines refl (λ x xs. refl) s e ls

@@ -220,10 +220,10 @@ module _ (rows : List Node) (log : List ℕ) (w : ℕ) (words sound : List ℕ) 
   sound'' = sound_marked (says log) sound
 
   single : Single sound''
-  single = sound-single rows wide (says log) w sound narrow lines fits
+  single = sound-single rows (says log) w sound narrow lines fits
 
   measures : (v : ℕ) → v < 32 → kind_at rows v ≡ 6 → Measures (length (says log)) (measured_by sound'') (measure_in (says log))
-  measures = sound-measures rows wide (says log) w sound narrow lines fits
+  measures = sound-measures rows (says log) w sound narrow lines fits
 
   enough : fit (length g) w (length words) ≡ true
   enough = true-and (leb w 1024) (leb (length g * w) (length words)) (le-leb w 1024 narrow) (le-leb (length g * w) (length words) room)

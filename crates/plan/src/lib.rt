@@ -69,16 +69,14 @@ fn plan_node(leaves: &Leaves, width: usize, node: Node) -> Node
     }
 }
 
-// Each leaf becomes the row of its number.
-fn plan(leaves: &Leaves, width: usize, rows: &Nodes) -> Nodes
+// Each leaf becomes the row of its number. In place: a table handed out is a copy more on the stack.
+fn plan(rows: &mut Nodes, leaves: &Leaves, width: usize)
     requires { width ≤ 1024 }
-    ensures { result ≡ planned leaves.now width rows.now }
+    ensures { rows.new ≡ planned leaves.now width rows.old }
 {
-    let mut table = *rows;
-    for node in &mut table {
+    for node in rows.iter_mut() {
         *node = plan_node(leaves, width, *node);
     }
-    table
 }
 
 // Marks the log's lines for the leaves of a pattern's table, and the sound ones in `sound`, and gives the table over these rows: where a row has a bit for each
@@ -103,7 +101,8 @@ pub fn prepare(
         return [NO_NODE; NODES];
     }
     mark(log, list, width, words, sound);
-    let mut table = plan(&leaves, width, rows);
+    let mut table = *rows;
+    plan(&mut table, &leaves, width);
     folding::fold(&mut table, words, width, n * width);
     table
 }

@@ -22,15 +22,18 @@ pub(crate) fn past(n: u32) -> u32
     if n < NONE { n + 1 } else { 65537 }
 }
 
-// Of two fronts the one with the least end, of equal ends the one with the greatest start.
+// Of two fronts the one with the least end, of equal ends the one with the greatest start. By branches: as one condition the compiler chooses without any,
+// and a wide `or` took 1.3 times as long.
 pub(crate) fn better(a: Stretch, b: Stretch) -> Stretch
     ensures { result ≡ better_of a b }
 {
-    if b.end < a.end || (b.end == a.end && a.start < b.start) {
-        b
-    } else {
-        a
+    if b.end < a.end {
+        return b;
     }
+    if a.end < b.end {
+        return a;
+    }
+    if a.start < b.start { b } else { a }
 }
 
 // Whether a front that does not start at line `to` breaks the chain.

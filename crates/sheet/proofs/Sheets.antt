@@ -8,7 +8,7 @@ use mathlib.Core.List.{List, [], ◌∷◌, ◌++◌}
 use lib.ListN.{length, take, drop, length-append, length-take}
 use lib.Seq.{take_all}
 use lib.Dec.{eqb}
-use borrow.Author.Tests.{eqb-true, ne_eqb}
+use borrow.Author.Tests.{eqb-true, eq-eqb, ne_eqb}
 use native.Mathlib.Omega.{arith}
 use Rattle.stretches.specs.declared.Stretch.{Stretch}
 use Rattle.stretches.specs.Stretch.{Sound}
@@ -19,11 +19,7 @@ use Rattle.lines.proofs.LinesLaws.{cut-few}
 use Rattle.records.proofs.Walk.{damaged-few}
 use Rattle.basics.proofs.Basics.{le-or-lt}
 use Rattle.pattern.proofs.Outcomes.{refuses-long}
-use Rattle.std.specs.Prelude.{Ok, Err}
-use Rattle.meaning.specs.declared.Refusal.{Refusal}
-use Rattle.meaning.specs.declared.Filled.{Filled}
-use Rattle.meaning.specs.Replies.{number_of, place_of, FillReply, fill_reply}
-use Rattle.meaning.proofs.Replies.{number_some}
+use Rattle.meaning.specs.Replies.{FillReply}
 use Rattle.meaning.specs.Refusals.{Signal, refused, refusal}
 use Rattle.meaning.specs.Finding.{list_of, filling}
 use Rattle.meaning.proofs.Tree.{fine-answers_of}
@@ -44,13 +40,14 @@ use Rattle.sheet.specs.Sheet.{sheet_of, printed, printed_of}
 -- ── From a filling call ──
 
 -- the sheet of a filling call, by whether it was refused
-pub sheet-refused : (e : Refusal) (log cells : List ℕ) → refused_sheet (number_of e) (place_of e) ≡ sheet_of (fill_reply (Err e)) log cells
+pub sheet-refused : (f : FillReply) (log cells : List ℕ) → (f.number ≡ 0 → ⊥) → refused_sheet f.number f.place ≡ sheet_of f log cells
 unfolding sheet_of
-sheet-refused e log cells = rw (number_some e)
+sheet-refused f log cells n = rw (ne_eqb f.number 0 n)
 
-pub sheet-found : (f : Filled) (log cells : List ℕ) (c : Counted) → c ≡ counted log → found_sheet c.lines c.damaged (shown f.count cells) ≡ sheet_of (fill_reply (Ok f)) log cells
+pub sheet-found : (f : FillReply) (log cells : List ℕ) (c : Counted) → f.number ≡ 0 → c ≡ counted log
+    → found_sheet c.lines c.damaged (shown f.count cells) ≡ sheet_of f log cells
 unfolding sheet_of
-sheet-found f log cells c k = rw k
+sheet-found f log cells c e k = rw (eq-eqb f.number 0 e, k)
 
 -- with two cells for each answer that there can be, what the filling call from number 0 returns and leaves has the sheet of the pattern and the log
 pub filled-sheet : (pattern log cells : List ℕ) → 122880 ≤ length cells

@@ -6,9 +6,14 @@ use Rattle.meaning.specs.Replies.{FillReply}
 use Rattle.meaning.specs.Refusals.{refusal}
 use Rattle.meaning.specs.Finding.{list_of}
 use Rattle.input.specs.Input.{pattern_of, log_of}
+use Rattle.sheet.specs.declared.Reply.{Reply}
 use Rattle.print.specs.Print.{found_sheet, refused_sheet, shown}
 
--- the sheet of what a filling call from number 0 returned and left in the cells
+-- what a filling call replied
+abbrev pub reply_of : Reply → FillReply
+reply_of f = record { number = f.number; place = f.place; count = f.count; more = f.more }
+
+-- the sheet of what a filling call from number 0 replied and left in the cells
 unfoldable pub sheet_of : FillReply → List ℕ → List ℕ → List ℕ
 sheet_of f log cells =
     cond (eqb f.number 0) (found_sheet (counted log).lines (counted log).damaged (shown f.count cells)) (refused_sheet f.number f.place)

@@ -31,6 +31,21 @@ fronts-open i (l ∷ ls) [] e h = absurd (omega arith)
 fronts-open zero (l ∷ ls) (k ∷ ks) e h = refl
 fronts-open (suc i) (l ∷ ls) (k ∷ ks) e h = fronts-open i ls ks (omega arith) (omega arith)
 
+-- where one item is missing, the span is
+span-first : (r : List Front) → span (None ∷ r) ≡ None
+span-first [] = refl
+span-first (g ∷ r) = refl
+
+join-missing : (f g : Front) → g ≡ None → join f g ≡ None
+join-missing None g e = refl
+join-missing (Some x) g e = ap (join (Some x)) e
+
+span-later : (q : List Front) (j : ℕ) → j < length q → span (drop j q) ≡ None → span q ≡ None
+span-later [] j h e = absurd (omega arith)
+span-later (f ∷ q) zero h e = e
+span-later (f ∷ []) (suc j) h e = absurd (omega arith)
+span-later (f ∷ (g ∷ q)) (suc j) h e = join-missing f (span (g ∷ q)) (span-later (g ∷ q) j (omega arith) e)
+
 module _ (ls : List (List Stretch)) (ks : List ℕ) (room : length ks ≡ length ls) where
   -- the item of list i that was taken last
   abbrev item : ℕ → Front
@@ -53,6 +68,11 @@ module _ (ls : List (List Stretch)) (ks : List ℕ) (room : length ks ≡ length
   span-end m e =
       let z : suc m ≡ length ls = omega arith in
       sym (ap span (fronts-open m ls ks room (omega arith) ∙ ap (λ r. item m ∷ r) (ap (λ (j : ℕ). drop j (fronts ls ks)) z ∙ over)))
+
+  pub span-missing : (j : ℕ) → j < length ls → None ≡ item j → None ≡ span (fronts ls ks)
+  span-missing j h e =
+      let o = fronts-open j ls ks room h in
+      sym (span-later (fronts ls ks) j (omega (arith, fronts-length ls ks room)) (ap span (o ∙ ap (λ f. f ∷ drop (suc j) (fronts ls ks)) (sym e)) ∙ span-first (drop (suc j) (fronts ls ks))))
 
   pub span-back : (i : ℕ) (x s s' : Front) → 0 < i → i < length ls → x ≡ item (i - 1) → s' ≡ join x s → s ≡ span (drop i (fronts ls ks)) → s' ≡ span (drop (i - 1) (fronts ls ks))
   span-back i x s s' lo hi h e w =

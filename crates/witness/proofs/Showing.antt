@@ -1,6 +1,6 @@
 -- What a node shows, operand by operand: one law for each return and turn of the loop. Assumes nothing.
 use Prim.Native.Nat.{ℕ, suc, ◌+◌, ◌≤◌, ◌<◌}
-use mathlib.Core.Path.{◌≡◌, refl, sym, ap, ap₂, subst, ◌∙◌}
+use mathlib.Core.Path.{◌≡◌, sym, ap, ap₂, subst, ◌∙◌}
 use mathlib.Core.Bool.{Bool, true, false, not, cond}
 use mathlib.Core.List.{List, [], ◌∷◌, ◌++◌, append_assoc, append-nil}
 use mathlib.Core.Option.{Option}
@@ -11,7 +11,7 @@ use lib.ListN.{length}
 use Rattle.stretches.specs.declared.Node as stretches
 use Rattle.stretches.specs.declared.Stretch.{Stretch}
 use Rattle.stretches.specs.Stretch.{In, Op}
-use Rattle.stretches.specs.Front.{Front, None, Some, first_from, first_to}
+use Rattle.stretches.specs.Front.{Front, None, Some}
 use Rattle.stretches.specs.Operators.{apply}
 use Rattle.stretches.specs.Table.{kind_at, leaf_kind, chain_kind, next_of, stop_of}
 use Rattle.stretches.specs.Shown.{nothing}

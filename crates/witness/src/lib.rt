@@ -157,6 +157,9 @@ pub fn show(text: &[u8], log: &[u8], number: usize, cells: &mut [u32]) -> Result
     ensures value { reply result ≡ witnessing text.now log.now number cells.old }
     ensures cells_after { cells.new ≡ filled_shown (shown_in text.now log.now number) cells.old }
 {
-    let rows = read_both(text, log)?;
-    Ok(show_in(&rows, log, number, cells))
+    // By reference: taken out of the Result, the table stands on the stack once more.
+    match &read_both(text, log) {
+        Ok(rows) => Ok(show_in(rows, log, number, cells)),
+        Err(refusal) => Err(*refusal),
+    }
 }

@@ -4,7 +4,7 @@ use Rattle.acceptance.proofs.Reading.{read-long, read-refused, read-accepted}
 use Rattle.acceptance.proofs.read_both.Goals as goal
 
 pub returns-then-log-gt-LOG_MAX-clause-signal : goal.returns-then-log-gt-LOG_MAX-clause-signal
-returns-then-log-gt-LOG_MAX-clause-signal c = read-long c.args.text.now c.args.log.now c.if-log-gt-LOG_MAX.true
+returns-then-log-gt-LOG_MAX-clause-signal c = (read-long c.args.text.now c.args.log.now c.if-log-gt-LOG_MAX.true).0
 
 pub returns-in_err-table-clause-signal : goal.returns-in_err-table-clause-signal
 returns-in_err-table-clause-signal c =

@@ -1,13 +1,24 @@
 -- `finder::fill` meets its contract. Assumes nothing.
-use Rattle.std.proofs.lemmas.Result.{err_from_is_err_and}
+use mathlib.Core.Path.{◌≡◌, subst}
+use mathlib.Core.List.{List}
+use Rattle.std.specs.Prelude.{Result, IfOk}
+use Rattle.stretches.specs.declared.Node.{Node}
+use Rattle.meaning.specs.declared.Refusal.{Refusal}
+use Rattle.meaning.specs.Refusals.{refusal}
+use Rattle.meaning.specs.Replies.{signal}
+use Rattle.acceptance.specs.Readied.{rows_in}
 use Rattle.finder.proofs.Calls.{fill-refused, fill-accepted}
 use Rattle.finder.proofs.fill.Goals as goal
 
-pub returns-in_err-rows : goal.returns-in_err-rows
-returns-in_err-rows c =
-    let p = err_from_is_err_and c.from_residual.result c.from_residual.ensures.1 in
-    let r = fill-refused _ _ c.args.from c.args.cells.now _ c.in_err-rows.ensures.signal in
-    record { value = rw (p.1, p.2) r.0; cells_after = r.1 }
+pub returns-in-Ok : goal.returns-in-Ok
+returns-in-Ok c =
+    let s = subst (λ (x : Result (List Node) Refusal). signal x ≡ refusal c.args.text.now c.args.log.now) c.in-Ok.is c.read_both.ensures.signal in
+    let k = subst (λ (x : Result (List Node) Refusal). IfOk x (λ r. r ≡ rows_in c.args.text.now c.args.log.now)) c.in-Ok.is c.read_both.ensures.rows in
+    let r = fill-accepted _ _ c.args.from c.args.cells.now s _ k _ _ c.fill_from-w.ensures in
+    record { value = r.0; cells_after = r.1 }
 
-pub returns : goal.returns
-returns c = let r = fill-accepted _ _ c.args.from c.args.cells.now c.in_ok-rows.ensures.signal _ c.in_ok-rows.ensures.rows _ _ c.fill_from-w.ensures in record { value = r.0; cells_after = r.1 }
+pub returns-in-Err : goal.returns-in-Err
+returns-in-Err c =
+    let s = subst (λ (x : Result (List Node) Refusal). signal x ≡ refusal c.args.text.now c.args.log.now) c.in-Err.is c.read_both.ensures.signal in
+    let r = fill-refused _ _ c.args.from c.args.cells.now _ s in
+    record { value = r.0; cells_after = r.1 }

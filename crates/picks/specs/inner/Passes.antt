@@ -1,7 +1,7 @@
 -- A pass over the answers, with the picks so far in the cells; and a refusal's number. Private contracts cite this. Assumes nothing.
 use Rattle.std.specs.Prelude.{ℕ, ◌*◌, ◌≤◌, ◌<◌, ◌≡◌, Bool, true, cond, ◌&&◌, List, [], ◌∷◌, length, take, leb, ltb}
 use Rattle.stretches.specs.declared.Stretch.{Stretch}
-use Rattle.stretches.specs.Stretch.{st, In}
+use Rattle.stretches.specs.Stretch.{In}
 use Rattle.stretches.specs.Front.{Front, None, Some}
 use Rattle.stretches.specs.Filling.{written, filled}
 use Rattle.stretches.specs.Lent.{pairs}

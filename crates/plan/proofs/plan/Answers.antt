@@ -12,6 +12,6 @@ pub loop-node-preserved : goal.loop-node-preserved
 loop-node-preserved c = let a = c.args in
     let l = c.loop-node in
     let h : l.node-index < length a.rows.now = omega arith in
-    let long : length l.node-items ≡ 32 = omega (arith, ap length l.invariant, length-append {A = Node}, length-map {A = Node} {B = Node}, length-take {A = Node}, length-drop {A = Node}) in
-    ap (set l.node-items l.node-index) c.plan_node.ensures
-    ∙ map_over_more (plan_node a.leaves.now a.width) a.rows.now l.node-items l.node-index (get_or l.node-items l.node-index no_node) h l.invariant (get_or_default l.node-items l.node-index no_node _ (omega arith))
+    let long : length l.rows ≡ 32 = omega (arith, ap length l.invariant, length-append {A = Node}, length-map {A = Node} {B = Node}, length-take {A = Node}, length-drop {A = Node}) in
+    ap (set l.rows l.node-index) c.plan_node.ensures
+    ∙ map_over_more (plan_node a.leaves.now a.width) a.rows.now l.rows l.node-index (get_or l.rows l.node-index no_node) h l.invariant (get_or_default l.rows l.node-index no_node _ (omega arith))

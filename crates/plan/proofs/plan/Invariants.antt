@@ -6,4 +6,4 @@ use Rattle.plan.specs.Plan.{plan_node}
 use Rattle.plan.proofs.plan.Given as goal
 
 abbrev pub invariant-loop-node : goal.invariant-loop-node
-invariant-loop-node l = l.node-items ≡ map (plan_node l.leaves l.width) (take l.node-index l.rows) ++ drop l.node-index l.rows
+invariant-loop-node l = l.rows ≡ map (plan_node l.leaves l.width) (take l.node-index l.initial.rows) ++ drop l.node-index l.initial.rows

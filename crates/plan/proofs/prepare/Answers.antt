@@ -19,6 +19,6 @@ returns-then-not-fit c = let a = c.args in
 
 pub returns : goal.returns
 returns c = let a = c.args in
-    let table = c.plan-table.ensures ∙ ap (λ (l : List Leaf). planned l a.width a.rows.now) (sym c.as_slice-list.ensures.0) in
+    let table = c.plan.ensures ∙ ap (λ (l : List Leaf). planned l a.width a.rows.now) (sym c.as_slice-list.ensures.0) in
     let r = prepare-is a.rows.now a.log.now a.width a.words.now a.sound.now (of_table (goal.at.returns c).After-fit) c.fit.ensures c.if-not-fit.false c.mark.ensures.words_after c.mark.ensures.sound_after table c.fold.ensures.rows_after c.fold.ensures.words_after in
     record { value = r.0; words_after = r.1; sound_after = r.2 }

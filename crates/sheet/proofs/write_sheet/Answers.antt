@@ -1,18 +1,20 @@
 -- `sheet::write_sheet` meets its contract.
 -- Assumes nothing.
-use mathlib.Core.Path.{subst, ap₂, ◌∙◌}
+use mathlib.Core.Path.{subst}
 use mathlib.Core.List.{List}
 use Prim.Native.Nat.{ℕ}
-use Rattle.print.specs.Print.{Writes, refused_sheet}
+use Rattle.print.specs.Print.{Writes}
+use Rattle.sheet.specs.Sheet.{reply_of}
 use Rattle.sheet.proofs.Sheets.{sheet-refused, sheet-found}
 use Rattle.sheet.proofs.write_sheet.Goals as goal
 
-pub returns-in-Ok : goal.returns-in-Ok
-returns-in-Ok c = let a = c.args in
-    let w = c.write_found in
-    rw c.in-Ok.is (subst (λ (s : List ℕ). Writes s a.out.now w.result w.new.out) (sheet-found c.in-Ok.f a.log.now a.cells.now c.count-c.result c.count-c.ensures) w.ensures)
-
-pub returns-in-Err : goal.returns-in-Err
-returns-in-Err c = let a = c.args in
+pub returns-then-f-ne0 : goal.returns-then-f-ne0
+returns-then-f-ne0 c = let a = c.args in
     let w = c.write_refused in
-    rw c.in-Err.is (subst (λ (s : List ℕ). Writes s a.out.now w.result w.new.out) (ap₂ refused_sheet c.number.ensures c.place.ensures ∙ sheet-refused c.in-Err.e a.log.now a.cells.now) w.ensures)
+    subst (λ (s : List ℕ). Writes s a.out.now w.result w.new.out) (sheet-refused (reply_of a.f) a.log.now a.cells.now c.if-f-ne0.true) w.ensures
+
+pub returns : goal.returns
+returns c = let a = c.args in
+    let n = c.count-c in
+    let w = c.write_found in
+    subst (λ (s : List ℕ). Writes s a.out.now w.result w.new.out) (sheet-found (reply_of a.f) a.log.now a.cells.now n.result c.if-f-ne0.false n.ensures) w.ensures
