@@ -6,7 +6,7 @@ use mathlib.Core.List.{List, []}
 use lib.ListN.{length, replicate}
 use borrow.Author.Tests.{lt-ltb, le-ltb}
 use native.Mathlib.Omega.{arith}
-use Rattle.std.specs.Prelude.{Result, Ok, Err}
+use Rattle.std.specs.Prelude.{Result, Ok, Err, IfOk}
 use Rattle.std.specs.Result.{result_map_both}
 use Rattle.stretches.specs.declared.Node.{Node}
 use Rattle.stretches.specs.Table.{no_node}
@@ -69,6 +69,14 @@ module _ (text log : List ℕ) where
       let a = read-accepts text t g in
       (read-accepted t h g, ap (λ (t : Table). t.rows) a.2 ∙ (ap (λ (o : Outcome). (table_of o).rows) (sym a.1) ∙ rows_short h))
   read_short (Err v) h g = (read-refused v h g, ap (λ (o : Outcome). (table_of o).rows) (sym (read-refuses text v g)) ∙ rows_short h)
+
+  -- what is promised of a reading, once it is known whether it was refused
+  pub read-ok : {r : Result (List Node) Refusal} {rows : List Node} → r ≡ Ok rows → signal r ≡ refusal text log → IfOk r (λ x. x ≡ rows_in text log)
+      → (accepted ≡ refusal text log) × (rows ≡ rows_in text log)
+  read-ok e s k = (subst (λ (x : Result (List Node) Refusal). signal x ≡ refusal text log) e s, subst (λ (x : Result (List Node) Refusal). IfOk x (λ y. y ≡ rows_in text log)) e k)
+
+  pub read-err : {r : Result (List Node) Refusal} {f : Refusal} → r ≡ Err f → signal r ≡ refusal text log → refused (number_of f) (place_of f) ≡ refusal text log
+  read-err e s = subst (λ (x : Result (List Node) Refusal). signal x ≡ refusal text log) e s
 
   -- of an accepted call the log is not too long, the pattern stands in the table, and the list is the pattern's
   pub record AcceptedTree : Type 0 where

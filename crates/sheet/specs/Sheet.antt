@@ -6,11 +6,11 @@ use Rattle.meaning.specs.Replies.{FillReply}
 use Rattle.meaning.specs.Refusals.{refusal}
 use Rattle.meaning.specs.Finding.{list_of}
 use Rattle.input.specs.Input.{pattern_of, log_of}
-use Rattle.sheet.specs.declared.Reply.{Reply}
+use Rattle.sheet.specs.declared.FillReply as sheet
 use Rattle.print.specs.Print.{found_sheet, refused_sheet, shown}
 
 -- what a filling call replied
-abbrev pub reply_of : Reply → FillReply
+abbrev pub reply_of : sheet.FillReply → FillReply
 reply_of f = record { number = f.number; place = f.place; count = f.count; more = f.more }
 
 -- the sheet of what a filling call from number 0 replied and left in the cells

@@ -4,7 +4,7 @@
 #![tactic(auto)]
 
 use basics::first;
-use sheet::Reply;
+use sheet::FillReply;
 use std::io;
 
 // Prints the sheet of a pattern and a log.
@@ -19,7 +19,7 @@ fn show_lists(rt: &impl Print, op: u32, items: &[u32], ends: &[u32]) -> io::Resu
     let mut cells = [0u32; 64];
     let mut out = [0u8; 512];
     let r = lists::fill(op, 0, items, ends, &mut cells, 0);
-    let n = sheet::write_sheet(Reply::from(r), b"", &cells, &mut out);
+    let n = sheet::write_sheet(FillReply::from(r), b"", &cells, &mut out);
     rt.write_all(first(&out, n))
 }
 
